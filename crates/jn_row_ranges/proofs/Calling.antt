@@ -1,20 +1,11 @@
 -- A client that calls fits after each row, and what it sends can be taken.
-use Rattle.jn_row_ranges.proofs.Common.{◌≡◌, ◌≤◌, ℕ, Bool, true, false, ◌+◌, Option, Some, None, refl, sym, subst, arith, ◌∙◌, ◌&&◌, if◌then◌else◌, ⊤, List, [], ◌∷◌, ClientNo, RequestNo, client_eq, request_eq, Command, Message, Outstanding, Sent, ClientTable, Commanded, Refuses, Sends, command_row, take_row, over, AllCanBeTaken, ClientFits, CommandFits, sent_for, DrawsOne, CanBeTaken}
-use Rattle.std.specs.Prelude.{◌||◌}
-use Rattle.std.proofs.lemmas.List.Elements.{All-nil, All-cons}
-use Rattle.jn_base.specs.declared.names.Party.{Party}
-use Rattle.jn_base.specs.declared.names.ServerNo.{ServerNo}
+use Rattle.jn_row_ranges.proofs.Common.{◌≡◌, ◌≤◌, ℕ, Bool, true, false, ◌+◌, Option, Some, None, refl, subst, arith, ◌∙◌, ◌&&◌, if◌then◌else◌, ⊤, [], ClientNo, RequestNo, client_eq, request_eq, Message, Outstanding, Sent, ClientTable, Commanded, Refuses, Sends, command_row, take_row, AllCanBeTaken, ClientFits, CommandFits, sent_for, DrawsOne, CanBeTaken, ◌||◌, All-nil, All-cons, Party, ServerNo, Op, EventInRange, TableTaken, idle}
 use Rattle.jn_base.specs.declared.op.Answer.{Answer}
-use Rattle.jn_base.specs.declared.op.Op.{Op}
 use Rattle.jn_base.specs.declared.op.Command.TheVariants.{Do}
 use Rattle.jn_base.specs.declared.call.Call.{Call}
-use Rattle.jn_base.specs.Ops.{CommandInRange, BlockInRange}
 use Rattle.jn_msgs.specs.declared.message.Message.TheVariants as messages
 use Rattle.jn_schedule.specs.declared.Event.TheVariants as events
-use Rattle.jn_schedule.specs.Ranges.{EventInRange}
-use Rattle.jn_rows.specs.declared.client.Taken.{Taken as TableTaken}
 use Rattle.jn_rows.specs.declared.client.Taken.TheVariants as takes
-use Rattle.jn_rows.specs.Client.{idle}
 use Rattle.jn_calls.specs.declared.order.Order.{Order}
 use Rattle.jn_calls.specs.declared.reply.Reply.{Reply}
 use Rattle.jn_calls.specs.declared.reply.Reply.TheVariants as replies
@@ -84,7 +75,7 @@ same-sent (takes.Send to m) = refl
 same-sent (takes.Told text more) = refl
 
 -- of which none is an operation
-pub table-asks-none : (t : ClientTable) (m : Message) → operations_sent (as_table (take_row t m).1) ≡ 0
+table-asks-none : (t : ClientTable) (m : Message) → operations_sent (as_table (take_row t m).1) ≡ 0
 table-asks-none t m = let fewer = subst (λ (row : Caller × Taken). operations_sent row.1 + still row.0.doing ≤ 0) (plain-message t m) (asks-fewer (of_table t) m) in omega (arith, fewer)
 
 table-fits : (c : Caller) (m : Message) → CallerFits c → FitsThen c.table (with_table c (take_row c.table m))

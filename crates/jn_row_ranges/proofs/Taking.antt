@@ -1,9 +1,6 @@
 -- What servers send and what clients send can be taken.
-use Rattle.jn_row_ranges.proofs.Common.{◌≡◌, ◌≤◌, ℕ, Bool, true, false, List, [], ◌∷◌, Option, Some, None, refl, true≢false, sym, subst, arith, ◌&&◌, nat_lt, if◌then◌else◌, ⊤, ServerNo, ClientNo, Tid, WorkId, client_eq, Command, Message, OpenWork, Outstanding, Taken, Sent, ClientTable, Commanded, Refuses, Sends, new_table, command_row, take_row, again_row, sent_again, over, work_at, if_server, if_idle, if_transaction, if_no_transaction, if_open, if_not_open, if_waits, ignored, is_current, begun_row, opened_row, decided_row, outcome_row, IsClient, after_command, command_keeps, take_keeps, names_are_few, sent_now, AllCanBeTaken, is_from_server, are_from_server, ClientFits, CommandFits, sent_for, DrawsOne, Text, CanBeTaken}
+use Rattle.jn_row_ranges.proofs.Common.{◌≡◌, ◌≤◌, ℕ, Bool, true, false, List, [], ◌∷◌, Option, Some, None, refl, true≢false, sym, subst, arith, ◌&&◌, nat_lt, if◌then◌else◌, ⊤, ServerNo, ClientNo, Tid, WorkId, client_eq, Command, Message, OpenWork, Outstanding, Taken, Sent, ClientTable, Commanded, Refuses, Sends, new_table, command_row, take_row, again_row, sent_again, over, work_at, if_server, if_idle, if_transaction, if_no_transaction, if_open, if_not_open, if_waits, ignored, is_current, begun_row, opened_row, decided_row, outcome_row, IsClient, after_command, command_keeps, take_keeps, names_are_few, sent_now, AllCanBeTaken, is_from_server, are_from_server, ClientFits, CommandFits, sent_for, DrawsOne, Text, CanBeTaken, Op, All-nil, All-cons, Party, PartsInRange, EventInRange}
 use Rattle.jn_base.specs.Ops.{CommandInRange, BlockInRange}
-use Rattle.jn_base.specs.declared.op.Op.{Op}
-use Rattle.std.proofs.lemmas.List.Elements.{All-nil, All-cons}
-use Rattle.jn_base.specs.declared.names.Party.{Party}
 use Rattle.jn_base.specs.declared.op.Op.TheVariants as ops
 use Rattle.jn_base.specs.declared.op.Command.TheVariants.{Begin, Open, Do, End, Abort}
 use Rattle.jn_msgs.specs.declared.message.Message.TheVariants as messages
@@ -12,7 +9,6 @@ use Rattle.jn_msgs.specs.declared.message.Outcome.TheVariants as outcomes
 use Rattle.jn_report.specs.declared.line.Refusal.TheVariants as refusals
 use Rattle.jn_schedule.specs.declared.Event.TheVariants as events
 use Rattle.jn_schedule.specs.Grammar.{op_parts}
-use Rattle.jn_schedule.specs.Ranges.{PartsInRange, EventInRange}
 
 -- ---- servers
 

@@ -1,5 +1,7 @@
 -- Where clients stand, and what the system reports of them.
-use Rattle.jn_world_refines.proofs.Common.{◌≡◌, ◌⊎◌, inl, inr, ◌≢◌, ◌-◌, ℕ, suc, Bool, true, false, List, [], ◌∷◌, slice_get, slice_set, Option, Some, None, refl, sym, ◌∙◌, ap, subst, arith, ◌&&◌, nat_lt, if◌then◌else◌, length-set, nat_tests, ClientNo, Tid, WorkId, client_eq, client_tells, DeviceState, Message, commits_in, Text, ClientTable, new_table, take_row, if_waits, ignored, begun_row, opened_row, answer_line, is_current, decided_row, outcome_row, pairs_view, StoreView, Setup, Moment, Standing, is_client_number, Stands, Answer, Outstanding, CallTaken, Caller, new_caller, of_table, take_call_row, DoingFits}
+use Rattle.jn_world_refines.proofs.Common.{◌≡◌, ◌⊎◌, inl, inr, ◌≢◌, ◌-◌, ℕ, suc, Bool, true, false, List, [], ◌∷◌, slice_get, slice_set, Option, Some, None, refl, sym, ◌∙◌, ap, subst, arith, ◌&&◌, nat_lt, if◌then◌else◌, length-set, nat_tests, ClientNo, Tid, WorkId, client_eq, client_tells, DeviceState, Message, commits_in, Text, ClientTable, new_table, take_row, if_waits, ignored, begun_row, opened_row, answer_line, is_current, decided_row, outcome_row, pairs_view, StoreView, Setup, Moment, Standing, is_client_number, Stands, CallTaken, Caller, new_caller, of_table, take_call_row, DoingFits}
+use Rattle.jn_base.specs.declared.op.Answer.{Answer}
+use Rattle.jn_rows.specs.declared.client.Outstanding.{Outstanding}
 use Rattle.jn_rows.specs.declared.client.Taken.{Taken}
 use Rattle.jn_base.specs.declared.op.Answer.TheVariants as answers
 use Rattle.jn_msgs.specs.declared.message.Message.TheVariants as messages

@@ -1,5 +1,5 @@
 -- Each outcome at a server counts as thanked, once the clients are dismissed.
-use Rattle.jn_world_refines.proofs.Common.{◌≡◌, ◌<◌, ℕ, zero, suc, Bool, true, false, List, [], ◌∷◌, ◌++◌, append-nil, drop, slice_get, slice_set, Option, Some, None, refl, sym, ◌∙◌, ap, subst, arith, true≢false, if◌then◌else◌, nat_lt, fun_ext, nat_tests, ServerNo, ClientNo, Outside, DeviceState, Place, Slot, Up, Down, Gone, IsDoneAt, Closed, texts_of_step, WhereUp, KeepsBeside, is_up, World, Memory, of_coordinator, CloseClients, IsIdle, after, done, close_clients, counts_by, Line, Text, ClientTable, RowOutcome, StableState, Pick, made_all, Parts, view_with, memory_of, go_on, state, pairs_view, StoreView, Setup, Chance, served, Moment, lines_at, ClosesClients, when_of, next_task, Standing, is_client_number, Stands, HasCounts, IsStepTo, row_calls, beside_by, Outstanding, numberless, Caller}
+use Rattle.jn_world_refines.proofs.Common.{◌≡◌, ◌<◌, ℕ, zero, suc, Bool, true, false, List, [], ◌∷◌, ◌++◌, append-nil, drop, slice_get, slice_set, Option, Some, None, refl, sym, ◌∙◌, ap, subst, arith, true≢false, if◌then◌else◌, nat_lt, fun_ext, nat_tests, ServerNo, ClientNo, Outside, DeviceState, Place, Slot, Up, Down, Gone, IsDoneAt, Closed, texts_of_step, WhereUp, KeepsBeside, is_up, World, Memory, of_coordinator, CloseClients, IsIdle, after, done, close_clients, counts_by, Line, Text, ClientTable, RowOutcome, StableState, Pick, made_all, Parts, view_with, memory_of, go_on, state, pairs_view, StoreView, Setup, Chance, served, Moment, lines_at, ClosesClients, when_of, next_task, Standing, is_client_number, Stands, HasCounts, IsStepTo, row_calls, beside_by, numberless, Caller, none-left}
 use Rattle.jn_rows.specs.Coordinator.{close_clients_row}
 use Rattle.jn_world_refines.proofs.Dismissing.{there-is}
 use Rattle.jn_world_refines.proofs.Moving.{same-server, carries-on, net-quiet, device-here, device-there, moved-step}
@@ -11,12 +11,8 @@ module _ {S : Type 0} (look : S → StoreView) (device : S → DeviceState) (see
   system-idle : (c : ClientNo) → IsIdle (m.state.callers c).table → IsIdle (m.state.course.world.clients c)
   system-idle c h = let its = stand.tables c in (
     ap (λ (t : ClientTable). t.transaction) (sym its.table) ∙ h.0,
-    idle-too (m.state.course.world.clients c).outstanding (ap (λ (t : ClientTable). t.outstanding) (sym its.table) ∙ ap numberless h.1),
+    none-left (m.state.course.world.clients c).outstanding (ap (λ (t : ClientTable). t.outstanding) (sym its.table) ∙ ap numberless h.1),
   )
-    where
-      idle-too : (o : Option Outstanding) → numberless o ≡ None → o ≡ None
-      idle-too None e = refl
-      idle-too (Some o) e = absurd (cc e)
 
   -- every client of the machine is idle where the code's eight are
   pub all-idle : ((n : ℕ) (c : Caller) → slice_get w.clients n ≡ Some c → IsIdle c.table) → (c : ClientNo) → IsIdle (m.state.course.world.clients c)

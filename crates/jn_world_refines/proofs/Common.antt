@@ -30,7 +30,7 @@ pub use Rattle.jn_place.specs.declared.place.Slot.TheVariants.{Up, Down, Gone}
 pub use Rattle.jn_machine.specs.Leaving.{beside_by, AreLeft, AreAllCounted, left_by_step, left_by_steps, beside_at, left_by_row}
 pub use Rattle.jn_base.specs.declared.names.ClientNo.{ClientNo}
 pub use Rattle.jn_base.specs.declared.names.Party.TheVariants.{Client, Server}
-pub use Rattle.jn_base.specs.Names.{client_eq, server_eq, tid_eq, request_eq, request_of, operation_of, work_eq}
+pub use Rattle.jn_base.specs.Names.{client_eq, server_eq, tid_eq, work_eq}
 pub use Rattle.jn_net.specs.declared.Sent.{Sent as Posted}
 pub use Rattle.jn_net.specs.Carried.{with_delivered, Carried, waiting}
 pub use Rattle.jn_system.specs.WholeSystem.Steps.{Step, Deliver, Tell, IsRun, run, after, CloseClients, IsIdle, done, close_clients, Again, sent_now, Crash, crash, Dismiss, StopWork, work, works, at_memory, handed, are_rising, tid_before, Nudge, Timeout, nudge, timeout, NextEvent, handing, working, took, commanded, IsStep, Restart, AreNames, restart, restart_with, stopped, ends, Narrow, StopRestart, narrow, stop_restart, StopDelivery, Work}
@@ -39,9 +39,9 @@ pub use Rattle.jn_world_refines.specs.Waiting.{Carries, sent_of, delivered_by, a
 pub use Rattle.jn_rows.specs.Outcomes.{Sent, RowOutcome}
 pub use Rattle.jn_world_refines.specs.Clients.{with_client, sent_ordered, ordering}
 pub use Rattle.jn_machine.proofs.LeftBy.{left-told, left-sent, left_with, left-work}
-pub use Rattle.jn_base.specs.declared.op.Command.TheVariants.{Do, Begin, Open, End, Abort}
+pub use Rattle.jn_base.specs.declared.op.Command.TheVariants.{Do, Begin}
 pub use Rattle.jn_callers.specs.declared.taken.Taken.{Taken, Taken as CallTaken}
-pub use Rattle.jn_callers.specs.Callers.{Caller, new_caller, take_call_row, of_table, Ordered, Refused, Sent as Accepted, command_of, order_row, dismissed_caller, as_table, with_table, last, goes_on, after_turn, take_answer}
+pub use Rattle.jn_callers.specs.Callers.{Caller, new_caller, take_call_row, of_table, Ordered, Refused, Sent as Accepted, command_of, order_row, dismissed_caller, as_table, last}
 pub use Rattle.jn_callers.specs.Ranges.{DoingFits, OrderInRange}
 pub use Rattle.jn_callers.proofs.Ranging.{message-fits, order-fits}
 pub use Rattle.jn_row_ranges.specs.Callers.{sent_taken}
@@ -51,9 +51,7 @@ pub use Rattle.jn_base.specs.declared.names.Tid.{Tid}
 pub use Rattle.jn_base.specs.declared.names.WorkId.{WorkId}
 pub use Rattle.jn_base.proofs.Tells.{client_tells, server_tells, tid_tells}
 pub use Rattle.jn_msgs.specs.declared.message.Message.{Message}
-pub use Rattle.jn_rows.specs.Client.{ClientTable, new_table, take_row, if_waits, ignored, begun_row, opened_row, answer_line, is_current, decided_row, outcome_row, Commanded, Refuses, command_row, again_row, Sends, over, idle, sends, work_at, with_operation, if_idle, if_transaction, if_open, is_operation, told}
-pub use Rattle.jn_base.specs.declared.op.Answer.{Answer}
-pub use Rattle.jn_rows.specs.declared.client.Outstanding.{Outstanding}
+pub use Rattle.jn_rows.specs.Client.{ClientTable, new_table, take_row, if_waits, ignored, begun_row, opened_row, answer_line, is_current, decided_row, outcome_row, Commanded, Refuses, command_row, again_row, Sends, over, idle, told}
 pub use Rattle.std.proofs.Math.Path.{fun_ext}
 pub use Rattle.jn_base.specs.declared.device.Outside.{Outside}
 pub use Rattle.jn_place.specs.Places.{is_up}
@@ -63,8 +61,9 @@ pub use Rattle.jn_server.specs.Seen.{Parts, view_with, memory_of, ServerView, ro
 pub use Rattle.jn_storage.specs.Calls.{state}
 pub use Rattle.jn_storage.specs.DeviceCalls.{row_calls, step_calls}
 pub use Rattle.jn_system.specs.WholeSystem.Numbers.{numberless, plain_client, plain_world}
+pub use Rattle.jn_machine.proofs.Alike.{none-left, sent-anew}
 pub use Rattle.jn_calls.specs.declared.order.Order.{Order}
-pub use Rattle.jn_callers.specs.Laws.{after_order, IsCaller, operations_sent, waits_at, is_done_at}
+pub use Rattle.jn_callers.specs.Laws.{after_order, IsCaller}
 pub use Rattle.jn_row_ranges.specs.Within.{Within}
 pub use Rattle.jn_row_ranges.proofs.WorldSteps.{run-within, sent-near, opening-within}
 pub use Rattle.jn_machine.proofs.Computed.{may-lead, join}

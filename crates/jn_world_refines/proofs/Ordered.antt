@@ -1,6 +1,6 @@
 -- What the system's steps for a client send and report. They send what they would where the system had the client's own table, since
 -- the two differ in numbers of events alone.
-use Rattle.jn_world_refines.proofs.Common.{◌+◌, ◌≡◌, ◌⊎◌, inl, inr, ◌≢◌, ℕ, Bool, true, false, List, [], ◌∷◌, ◌++◌, append-nil, append_assoc, Option, Some, None, refl, sym, ◌∙◌, ap, subst, arith, true≢false, ◌&&◌, nat_lt, if◌then◌else◌, fun_ext, nat_tests, slice_get, ServerNo, ClientNo, Tid, Client, client_eq, server_eq, server_tells, Message, World, commits_in, Text, ClientTable, Commanded, Refuses, command_row, take_row, if_waits, ignored, Sent, Step, Deliver, Tell, after, took, handed, commanded, run, no_room, Party, Server, WorkId, Answer, Begin, Open, Do, End, Abort, request_eq, request_of, operation_of, Outstanding, Sends, idle, sends, work_at, with_operation, if_idle, if_transaction, if_open, is_operation, told, answer_line, Order, CallTaken, Caller, Ordered, Refused, Accepted, command_of, order_row, as_table, with_table, last, goes_on, after_turn, take_answer, take_call_row, IsCaller, operations_sent, waits_at, is_done_at, sent_taken, plain_client, plain_world, next_told, steps_ordered, sent_ordered}
+use Rattle.jn_world_refines.proofs.Common.{◌+◌, ◌≡◌, ◌⊎◌, inl, inr, ℕ, Bool, true, List, [], ◌∷◌, ◌++◌, append-nil, append_assoc, Option, Some, None, refl, sym, ◌∙◌, ap, subst, arith, if◌then◌else◌, fun_ext, nat_tests, slice_get, ClientNo, Tid, Client, client_eq, Message, World, commits_in, Text, ClientTable, Commanded, Refuses, command_row, take_row, Sent, Step, Deliver, Tell, after, took, handed, commanded, run, no_room, Party, WorkId, Begin, Do, Sends, idle, told, Order, CallTaken, Caller, Ordered, Refused, Accepted, command_of, order_row, as_table, last, take_call_row, IsCaller, sent_taken, plain_client, plain_world, next_told, steps_ordered, sent_ordered, sent-anew}
 use Rattle.jn_rows.specs.declared.client.Taken.{Taken}
 use Rattle.jn_base.specs.declared.names.RequestNo.{RequestNo}
 use Rattle.jn_base.specs.declared.names.OperationNo.{OperationNo}
@@ -8,17 +8,15 @@ use Rattle.jn_base.specs.declared.op.Command.{Command}
 use Rattle.jn_base.specs.declared.op.Op.{Op}
 use Rattle.jn_msgs.specs.declared.message.Message.TheVariants as messages
 use Rattle.jn_report.specs.declared.line.Refusal.TheVariants as refusals
-use Rattle.jn_rows.specs.declared.client.OpenWork.{OpenWork}
 use Rattle.jn_rows.specs.declared.client.Taken.TheVariants as taken
 use Rattle.jn_calls.specs.declared.reply.Reply.{Reply}
 use Rattle.jn_calls.specs.declared.reply.Reply.TheVariants as replies
-use Rattle.jn_calls.specs.Turns.{Turn, Asks, Over, turn}
 use Rattle.jn_callers.specs.declared.doing.Doing.{Doing}
 use Rattle.jn_callers.specs.declared.taken.Taken.TheVariants as calls
-use Rattle.jn_callers.proofs.Kept.{call-waits}
 use Rattle.jn_callers.proofs.Sending.{order-sent}
 use Rattle.jn_row_ranges.specs.Taking.{sent_for}
-use Rattle.jn_row_ranges.proofs.Calling.{same-sent, table-asks-none}
+use Rattle.jn_row_ranges.proofs.Calling.{same-sent}
+use Rattle.jn_machine.proofs.Taking.{Takes, by_table, unmoved, goes_further, comes_over, call-takes, table-goes-not}
 use Rattle.jn_system.proofs.WholeSystem.Numbers.{steps-alike}
 use Rattle.jn_world_refines.proofs.Clients.{system_texts, taken-none}
 use Rattle.jn_world_refines.proofs.Lines.{commits-append}
@@ -98,50 +96,6 @@ module _ (callers : ClientNo → Caller) (v : World) (c : ClientNo) (order : Ord
       → (run (steps_ordered c order (command_row (callers c).table v.event (command_of order)) ordered) (own_world callers v)).sent ≡ v.sent ++ sent_ordered ordered
   ordered-sends = told-sends (command_row (callers c).table v.event (command_of order)) refl
 
--- ---- the next operation of a call
-
--- a work is found at its server
-work-there : (s : ServerNo) (ws : List OpenWork) (w : OpenWork) → work_at s ws ≡ Some w → w.work.server ≡ s
-work-there s [] w e = absurd (cc e)
-work-there s (a ∷ ws) w e = by (server_tells a.work.server s) (work-there s ws w)
-  where
-    one : (a b : OpenWork) → Some a ≡ Some b → a ≡ b
-    one a b e = cc
-
-    by : ((server_eq a.work.server s ≡ true) × (a.work.server ≡ s)) ⊎ ((server_eq a.work.server s ≡ false) × (a.work.server ≢ s)) → (work_at s ws ≡ Some w → w.work.server ≡ s) → w.work.server ≡ s
-    by (inl t) later = ap (λ (b : OpenWork). b.work.server) (sym (one a w (ap (λ (b : Bool). if b then Some a else work_at s ws) (sym t.0) ∙ e))) ∙ t.1
-    by (inr t) later = later (ap (λ (b : Bool). if b then Some a else work_at s ws) (sym t.0) ∙ e)
-
--- An operation is refused, or the system is told it and sends the same message, whatever the number of the event.
-abbrev IsSameOperation : ClientNo → ServerNo → Op → (ℕ → Commanded) → Commanded → Type 0
-IsSameOperation c s op row (Refuses refusal) = Unit {0}
-IsSameOperation c s op row (Sends now to message) = (next_told c (calls.Send to message) ≡ Tell c (Do s op) ∷ []) × ((j : ℕ) → (t : ClientTable) × (row j ≡ Sends t to message))
-
-module _ (c : ClientNo) (t : ClientTable) (s : ServerNo) (op : Op) (j : ℕ) where
-  abbrev sends_it : ℕ → OpenWork → Commanded
-  sends_it i w = sends (record t { works = with_operation s t.works }) i (Do s op) (Server s) (messages.Op t.client (request_of t.next) w.work (operation_of (w.last + 1)) op)
-
-  same-open : (w : Option OpenWork) → work_at s t.works ≡ w → IsSameOperation c s op (λ i. if_open w (λ w. sends_it i w)) (if_open w (λ w. sends_it j w))
-  same-open None e = tt
-  same-open (Some w) e = (ap (λ (q : ServerNo). Tell c (Do q op) ∷ []) (work-there s t.works w e), λ i. (_, refl))
-
-  same-transaction : (T : Option Tid) → IsSameOperation c s op (λ i. if_transaction T (λ T. if_open (work_at s t.works) (λ w. sends_it i w))) (if_transaction T (λ T. if_open (work_at s t.works) (λ w. sends_it j w)))
-  same-transaction None = tt
-  same-transaction (Some T) = same-open (work_at s t.works) refl
-
-  same-idle : (o : Option Outstanding) → IsSameOperation c s op (λ i. if_idle o (if_transaction t.transaction (λ T. if_open (work_at s t.works) (λ w. sends_it i w))))
-      (if_idle o (if_transaction t.transaction (λ T. if_open (work_at s t.works) (λ w. sends_it j w))))
-  same-idle None = same-transaction t.transaction
-  same-idle (Some o) = tt
-
-  same-server : (b : Bool) → IsSameOperation c s op (λ i. if b then (if_idle t.outstanding (if_transaction t.transaction (λ T. if_open (work_at s t.works) (λ w. sends_it i w)))) else Refuses refusals.NoSuchServer)
-      (if b then (if_idle t.outstanding (if_transaction t.transaction (λ T. if_open (work_at s t.works) (λ w. sends_it j w)))) else Refuses refusals.NoSuchServer)
-  same-server true = same-idle t.outstanding
-  same-server false = tt
-
-  same-operation : IsSameOperation c s op (λ i. command_row t i (Do s op)) (command_row t j (Do s op))
-  same-operation = same-server (nat_lt s.0 t.servers)
-
 -- ---- messages
 
 -- the deliveries of a client's messages, and the operation that may come behind one
@@ -178,86 +132,46 @@ pub record SendsSo (v : World) (k : ℕ) (c : ClientNo) (what : CallTaken) : Typ
 alone : (v : World) (k : ℕ) (c : ClientNo) (what : CallTaken) → next_told c what ≡ [] → (after (Deliver k no_room) v).sent ≡ v.sent ++ sent_taken what → SendsSo v k c what
 alone v k c what e h = record { first = inl e; all = ap (λ (steps : List Step). (run (Deliver k no_room ∷ steps) v).sent) e ∙ h }
 
-module _ (callers : ClientNo → Caller) (w : World) (k : ℕ) (c : ClientNo) where
+module _ (callers : ClientNo → Caller) (w : World) (k : ℕ) (c : ClientNo) (message : Message) (there : slice_get w.sent k ≡ Some (Client c, message)) where
   abbrev v : World
   v = own_world callers w
 
   abbrev its : Caller
   its = callers c
 
-  module _ (message : Message) (there : slice_get w.sent k ≡ Some (Client c, message)) where
-    none-told : (what : CallTaken) → operations_sent what ≡ 0 → next_told c what ≡ []
-    none-told what e = by what (next-of c what) e
-      where
-        by : (what : CallTaken) → Next c what → operations_sent what ≡ 0 → next_told c what ≡ []
-        by _ (none_next what e) h = e
-        by _ (op_next to client request W number op) h = absurd (omega (arith, h))
+  by-row : (row : ClientTable × Taken) → take_row its.table message ≡ row → after (Deliver k no_room) v ≡ took c k row.0 row.1 v
+  by-row row e = took-is c k message v there ∙ ap (λ (r : ClientTable × Taken). took c k r.0 r.1 v) e
 
-    table-sends : SendsSo v k c (with_table its (take_row its.table message)).1
-    table-sends = alone v k c (as_table (take_row its.table message).1) (none-told (as_table (take_row its.table message).1) (table-asks-none its.table message))
-        (ap (λ (u : World). u.sent) (took-is c k message v there) ∙ took-sent c k (take_row its.table message).0 (take_row its.table message).1 v ∙ ap (λ (sent : List Sent). w.sent ++ sent) (sym (same-sent (take_row its.table message).1)))
+  last-sends : (j : ℕ) (reply : Reply) → (after (Deliver k no_room) v).sent ≡ w.sent ++ [] → SendsSo v k c (last j reply)
+  last-sends j (replies.OfBytes next) h = alone v k c _ refl h
+  last-sends j (replies.OfNames next) h = alone v k c _ refl h
+  last-sends j (replies.Answered a) h = alone v k c _ refl h
 
-  -- an answer, while the client is in a call
-  module _ (client : ClientNo) (request : RequestNo) (a : Answer) (there : slice_get w.sent k ≡ Some (Client c, messages.Answer client request a)) (is : IsCaller its) where
-    abbrev fits : Outstanding → Bool
-    fits o = client_eq client its.table.client && (request_eq o.request request && is_operation o.command)
+  -- the next operation, in the world where the answer is taken
+  further : (d : Doing) (op : Op) (to : Party) (sent : Message) (line : Text) → after (Deliver k no_room) v ≡ took c k (idle its.table) (taken.Told line None) v → next_told c (calls.Send to sent) ≡ Tell c (Do d.server op) ∷ []
+      → (t : ClientTable) → command_row (idle its.table) w.event (Do d.server op) ≡ Sends t to sent → SendsSo v k c (calls.Send to sent)
+  further d op to sent line now told t row = record {
+    first = inr (ap (λ (u : World). u.sent) now ∙ append-nil w.sent);
+    all = ap (λ (steps : List Step). (run (Deliver k no_room ∷ steps) v).sent) told
+        ∙ ap (λ (u : World). (after (Tell c (Do d.server op)) u).sent) now
+        ∙ ap (λ (table : ClientTable). (commanded c (command_row table w.event (Do d.server op)) between).sent) (ap (λ (b : Bool). if b then idle its.table else its.table) (same-client c))
+        ∙ ap (λ (r : Commanded). (commanded c r between).sent) row
+        ∙ ap (λ (more : List Sent). more ++ (to, sent) ∷ []) (append-nil w.sent);
+  }
+    where
+      between : World
+      between = took c k (idle its.table) (taken.Told line None) v
 
-    answered : (o : Outstanding) → its.table.outstanding ≡ Some o → (b : Bool) → fits o ≡ b
-        → after (Deliver k no_room) v ≡ (let row = if b then told (idle its.table) (answer_line its.table.client o.event a) else ignored its.table in took c k row.0 row.1 v)
-    answered o e b test = took-is c k (messages.Answer client request a) v there
-        ∙ ap (λ (row : ClientTable × Taken). took c k row.0 row.1 v)
-        (ap (λ (x : Option Outstanding). if_waits its.table x fits (λ j. told (idle its.table) (answer_line its.table.client j a))) e
-        ∙ ap (λ (b : Bool). if b then told (idle its.table) (answer_line its.table.client o.event a) else ignored its.table) test)
+  sends-so : (row : Caller × CallTaken) → Takes c its message row → SendsSo v k c row.1
+  sends-so _ (by_table plain) = alone v k c (as_table (take_row its.table message).1) (table-goes-not c its.table message)
+      (ap (λ (u : World). u.sent) (by-row (take_row its.table message) refl) ∙ took-sent c k (take_row its.table message).0 (take_row its.table message).1 v
+      ∙ ap (λ (sent : List Sent). w.sent ++ sent) (sym (same-sent (take_row its.table message).1)))
+  sends-so _ (unmoved d is same) = alone v k c calls.Ignored refl (ap (λ (u : World). u.sent) (by-row (its.table, taken.Ignored) (same its.table refl)) ∙ sym (append-nil w.sent))
+  sends-so _ (goes_further d now j op u to sent answers row told) =
+      let a = answers its.table refl in
+      let anew = sent-anew (idle its.table) u j w.event d.server op to sent row in
+      further d op to sent a.line (by-row (idle its.table, taken.Told a.line None) a.row) told anew.table anew.is
+  sends-so _ (comes_over j reply spoiled answers) = let a = answers its.table refl in last-sends j reply (ap (λ (u : World). u.sent) (by-row (idle its.table, taken.Told a.line None) a.row))
 
-    -- the next operation, in the world where the answer is taken
-    next-sends : (o : Outstanding) (d d' : Doing) (op : Op) → after (Deliver k no_room) v ≡ took c k (idle its.table) (taken.Told (answer_line its.table.client o.event a) None) v
-        → (row : Commanded) → IsSameOperation c d.server op (λ i. command_row (idle its.table) i (Do d.server op)) row → SendsSo v k c (goes_on its d' row).1
-    next-sends o d d' op now (Refuses refusal) same = alone v k c calls.Ignored refl (ap (λ (u : World). u.sent) now)
-    next-sends o d d' op now (Sends t to message) same = record {
-      first = inr (ap (λ (u : World). u.sent) now ∙ append-nil w.sent);
-      all = ap (λ (steps : List Step). (run (Deliver k no_room ∷ steps) v).sent) same.0
-          ∙ ap (λ (u : World). (after (Tell c (Do d.server op)) u).sent) now
-          ∙ ap (λ (table : ClientTable). (commanded c (command_row table w.event (Do d.server op)) taken-world).sent) (ap (λ (b : Bool). if b then idle its.table else its.table) (same-client c))
-          ∙ ap (λ (r : Commanded). (commanded c r taken-world).sent) (same.1 w.event).1
-          ∙ ap (λ (sent : List Sent). sent ++ (to, message) ∷ []) (append-nil w.sent);
-    }
-      where
-        taken-world : World
-        taken-world = took c k (idle its.table) (taken.Told (answer_line its.table.client o.event a) None) v
-
-    last-sends : (j : ℕ) (reply : Reply) → (after (Deliver k no_room) v).sent ≡ w.sent ++ [] → SendsSo v k c (last j reply)
-    last-sends j (replies.OfBytes next) h = alone v k c _ refl h
-    last-sends j (replies.OfNames next) h = alone v k c _ refl h
-    last-sends j (replies.Answered a) h = alone v k c _ refl h
-
-    turn-sends : (o : Outstanding) (d : Doing) (j : ℕ) (next : Turn) → after (Deliver k no_room) v ≡ took c k (idle its.table) (taken.Told (answer_line its.table.client o.event a) None) v
-        → SendsSo v k c (after_turn its j d a next).1
-    turn-sends o d j (Asks op state) now = next-sends o d _ op now (command_row (idle its.table) j (Do d.server op)) (same-operation c (idle its.table) d.server op j)
-    turn-sends o d j (Over reply) now = last-sends j reply (ap (λ (u : World). u.sent) now)
-
-    answer-sends : (x : Option Doing) (y : Option Outstanding) → its.doing ≡ x → its.table.outstanding ≡ y → SendsSo v k c (take_answer its x y client request a).1
-    answer-sends (Some d) (Some o) e f = by (client_eq client its.table.client && request_eq o.request request) refl
-      where
-        all-three : (a b c : Bool) (z : Bool) → c ≡ true → (a && b) ≡ z → (a && (b && c)) ≡ z
-        all-three a b c z h e = grind arith
-
-        an-operation : (command : Command) → is_done_at d.server command ≡ true → is_operation command ≡ true
-        an-operation (Do s op) h = refl
-        an-operation (Begin s) h = absurd (true≢false (sym h))
-        an-operation (Open s) h = absurd (true≢false (sym h))
-        an-operation End h = absurd (true≢false (sym h))
-        an-operation Abort h = absurd (true≢false (sym h))
-
-        operation : is_operation o.command ≡ true
-        operation = an-operation o.command (subst (λ (p : Option Outstanding). waits_at d.server p ≡ true) f (call-waits its d is e))
-
-        by : (b : Bool) → (client_eq client its.table.client && request_eq o.request request) ≡ b → SendsSo v k c (if b then after_turn its o.event d a (turn d.state a) else (its, calls.Ignored)).1
-        by true z = turn-sends o d o.event (turn d.state a) (answered o f true (all-three _ _ _ true operation z))
-        by false z = alone v k c calls.Ignored refl (ap (λ (u : World). u.sent) (answered o f false (all-three _ _ _ false operation z)) ∙ sym (append-nil w.sent))
-    answer-sends (Some d) None e f = table-sends (messages.Answer client request a) there
-    answer-sends None o e f = table-sends (messages.Answer client request a) there
-
-  pub message-sends : (message : Message) → slice_get w.sent k ≡ Some (Client c, message) → IsCaller its → SendsSo v k c (take_call_row its message).1
-  message-sends (messages.Answer client request a) there is = answer-sends client request a there is its.doing its.table.outstanding refl refl
-  message-sends (messages.Begin client request) there is = table-sends (messages.Begin client request) there
-  message-sends message there is = table-sends message there
+  pub message-sends : IsCaller its → SendsSo v k c (take_call_row its message).1
+  message-sends is = sends-so (take_call_row its message) (call-takes c its is message)
