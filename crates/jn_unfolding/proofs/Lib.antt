@@ -1,3 +1,4 @@
 pub mod Unfolded
 pub mod Logged
 mod Example
+pub mod Along

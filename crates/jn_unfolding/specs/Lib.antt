@@ -1,3 +1,4 @@
 pub mod Unfolding
 pub mod Logs
 pub mod Example
+pub mod Beats
