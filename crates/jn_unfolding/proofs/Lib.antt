@@ -2,3 +2,4 @@ pub mod Unfolded
 pub mod Logged
 mod Example
 pub mod Along
+pub mod Agreeing

@@ -10,7 +10,10 @@ use Rattle.jn_base.specs.declared.op.Answer.{Answer}
 use Rattle.jn_base.specs.declared.op.Command.{Command}
 use Rattle.jn_base.specs.declared.op.Command.TheVariants.{Do}
 use Rattle.jn_base.specs.declared.call.Call.{Call}
-use Rattle.jn_base.specs.Names.{client_eq, tid_eq}
+use Rattle.jn_base.specs.Names.{client_eq, is_name}
+use Rattle.jn_names.specs.declared.entry.Entry.{Entry}
+use Rattle.jn_names.specs.declared.next.NameNext.TheVariants as name_nexts
+use Rattle.jn_calls.specs.declared.reply.Reply.TheVariants as replies
 use Rattle.jn_order.specs.Files.{is_did}
 use Rattle.jn_order.specs.Answers.{Answered}
 use Rattle.jn_schedule.specs.declared.Event.{Event}
@@ -213,27 +216,27 @@ abbrev pub after_hearing : Answer → Awaited → Awaited
 after_hearing a (OfCall g n) = after_turn g a (turn g.state a)
 after_hearing a other = other
 
-abbrev pub then : Stand → Beat → Stand
-then st (Gives e) = record st { number = st.number + 1; asked = st.asked + 1 }
-then st (GoesOn e) = record st { asked = st.asked + 1 }
-then st (Takes c order) = record st { number = st.number + 1; asked = st.asked + 1; awaited = with_awaited c (taken (st.number + 1) (st.asked + 1) order) st.awaited }
-then st (Refuses c order by_table refusal) = record st { number = st.number + 1; asked = st.asked + 1 }
-then st (RefusesAlone c order refusal) = record st { number = st.number + 1 }
-then st (Asks c) = record st { asked = st.asked + 1; awaited = with_awaited c (after_asking (st.asked + 1) (st.awaited c)) st.awaited }
-then st (Says text) = st
-then st (SaysAtEnd text) = st
-then st (IsAnswered c text) = record st { awaited = with_awaited c (after_answer text (st.awaited c)) st.awaited; begun = λ d. begun_after d (st.begun d) text }
-then st (Hears c a) = record st { awaited = with_awaited c (after_hearing a (st.awaited c)) st.awaited }
+abbrev pub after_beat : Stand → Beat → Stand
+after_beat st (Gives e) = record st { number = st.number + 1; asked = st.asked + 1 }
+after_beat st (GoesOn e) = record st { asked = st.asked + 1 }
+after_beat st (Takes c order) = record st { number = st.number + 1; asked = st.asked + 1; awaited = with_awaited c (taken (st.number + 1) (st.asked + 1) order) st.awaited }
+after_beat st (Refuses c order by_table refusal) = record st { number = st.number + 1; asked = st.asked + 1 }
+after_beat st (RefusesAlone c order refusal) = record st { number = st.number + 1 }
+after_beat st (Asks c) = record st { asked = st.asked + 1; awaited = with_awaited c (after_asking (st.asked + 1) (st.awaited c)) st.awaited }
+after_beat st (Says text) = st
+after_beat st (SaysAtEnd text) = st
+after_beat st (IsAnswered c text) = record st { awaited = with_awaited c (after_answer text (st.awaited c)) st.awaited; begun = λ d. begun_after d (st.begun d) text }
+after_beat st (Hears c a) = record st { awaited = with_awaited c (after_hearing a (st.awaited c)) st.awaited }
 
 -- ---- both schedules and both reports
 
 abbrev pub ticks_from : Stand → List Beat → List Tick
 ticks_from st [] = []
-ticks_from st (b ∷ beats) = ticks st b ++ ticks_from (then st b) beats
+ticks_from st (b ∷ beats) = ticks st b ++ ticks_from (after_beat st b) beats
 
 abbrev pub operation_ticks_from : Stand → List Beat → List Tick
 operation_ticks_from st [] = []
-operation_ticks_from st (b ∷ beats) = operation_ticks st b ++ operation_ticks_from (then st b) beats
+operation_ticks_from st (b ∷ beats) = operation_ticks st b ++ operation_ticks_from (after_beat st b) beats
 
 abbrev pub schedule_of : List Beat → List Event
 schedule_of beats = events_of (ticks_from at_first beats)
@@ -270,9 +273,14 @@ AnswersAwaited owner c text (OfCommand j command n) =
     (answers_command command text ≡ true) × (speaks_to (numbered j text) ≡ addressed c j) × IsBegunByOwner owner text
 AnswersAwaited owner c text other = ⊥
 
-abbrev pub HearsInCall : Awaited → Type 0
-HearsInCall (OfCall g n) = ⊤
-HearsInCall other = ⊥
+-- what is listed has names
+abbrev pub ListsNames : Turn → Type 0
+ListsNames (Over (replies.OfNames (name_nexts.Names es))) = AllByRecursion (λ (e : Entry). is_name e.name ≡ true) es
+ListsNames turn = ⊤
+
+abbrev pub HearsInCall : Answer → Awaited → Type 0
+HearsInCall a (OfCall g n) = ListsNames (turn g.state a)
+HearsInCall a other = ⊥
 
 abbrev pub AsksInCall : Awaited → Type 0
 AsksInCall (ToAsk g) = ⊤
@@ -288,11 +296,11 @@ IsBeat owner st (Asks c) = AsksInCall (st.awaited c)
 IsBeat owner st (Says text) = speaks_to text ≡ None
 IsBeat owner st (SaysAtEnd text) = speaks_to text ≡ None
 IsBeat owner st (IsAnswered c text) = AnswersAwaited owner c text (st.awaited c)
-IsBeat owner st (Hears c a) = HearsInCall (st.awaited c)
+IsBeat owner st (Hears c a) = HearsInCall a (st.awaited c)
 
 abbrev pub AreBeats : (Tid → ClientNo) → Stand → List Beat → Type 0
 AreBeats owner st [] = ⊤
-AreBeats owner st (b ∷ beats) = IsBeat owner st b × AreBeats owner (then st b) beats
+AreBeats owner st (b ∷ beats) = IsBeat owner st b × AreBeats owner (after_beat st b) beats
 
 -- ---- whole transactions
 
@@ -317,7 +325,7 @@ IsWholeAt t st beat = ⊤
 -- no call of T is given up behind a write of its own
 abbrev pub IsWholeFrom : Tid → Stand → List Beat → Type 0
 IsWholeFrom t st [] = (c : ClientNo) → MayGiveUp t st c
-IsWholeFrom t st (b ∷ beats) = IsWholeAt t st b × IsWholeFrom t (then st b) beats
+IsWholeFrom t st (b ∷ beats) = IsWholeAt t st b × IsWholeFrom t (after_beat st b) beats
 
 abbrev pub AreWhole : List Beat → List Tid → Type 0
 AreWhole beats ts = AllByRecursion (λ (t : Tid). IsWholeFrom t at_first beats) ts
