@@ -1,7 +1,7 @@
 -- A client's new transaction.
-use Rattle.jn_coord.proofs.Common.{◌≡◌, ◌⊎◌, inl, inr, ⊎_elim, ℕ, Bool, true, false, nat_eq, nat_lt, ◌+◌, ◌≤◌, ◌<◌, ◌&&◌, if◌then◌else◌, List, [], ◌∷◌, ◌++◌, Option, Some, None, Result, Ok, Err, length, length-append, slice_set, refl, sym, true≢false, ◌∙◌, ap, subst, arith, fun_ext, is_some, is_ok, OnOk, nat_tests, length-set, ClientNo, Tid, Tickets, Client, client_eq, tid_eq, tid_tells, Collected, Transaction, Stage, Open, Voting, Committed, Aborted, Change, DropFlag, StableState, made_by, made_all, ignored, CoordinatorTable, transaction_at, is_voting, promised, all_in, closed, thanked_changes, after_closing, changes_of_closing, name_from, seen_now, begun_by, begin_again, begin_row, IsGiven, StorageView, state, name_below, Remembered, table_of, seen_by, are_above, rises, added, committed_as, committed_at, ballot_fits, ballots_fit, FitsStorage, IsDone, CallFault, goes, ClientClosed, ClosesClient, count_left, are_before, TicketsFit, new_transaction, with_request, with_begun, RequestNo}
+use Rattle.jn_coord.proofs.Common.{◌≡◌, ◌⊎◌, inl, inr, ⊎_elim, ℕ, Bool, true, false, nat_eq, nat_lt, ◌+◌, ◌≤◌, ◌<◌, ◌&&◌, if◌then◌else◌, List, [], ◌∷◌, ◌++◌, Option, Some, None, Result, Ok, Err, length, length-append, slice_set, refl, sym, true≢false, ◌∙◌, ap, subst, arith, fun_ext, is_some, is_ok, OnOk, nat_tests, length-set, ClientNo, Tid, Tickets, Client, client_eq, tid_eq, tid_tells, Collected, Transaction, Stage, Open, Voting, Committed, Aborted, Change, DropFlag, StableState, made_by, made_all, ignored, CoordinatorTable, transaction_at, is_voting, promised, all_in, closed, thanked_changes, after_closing, changes_of_closing, name_from, seen_now, begun_by, begin_again, begin_row, IsGiven, StorageView, state, name_below, Remembered, table_of, seen_by, are_above, rises, added, committed_as, committed_at, ballot_fits, ballots_fit, FitsStorage, IsDone, CallFault, goes, ClientClosed, ClosesClient, count_left, are_before, TicketsFit, new_transaction, with_request, with_begun, RequestNo, and_parts}
 use Rattle.jn_msgs.specs.declared.message.Message.TheVariants as messages
-use Rattle.jn_coord.proofs.Restart.{both-of, seen-set}
+use Rattle.jn_coord.proofs.Restart.{seen-set}
 
 -- ---- how many are left
 
@@ -23,11 +23,11 @@ counted_left c (x ∷ xs) = by (client_eq x.client c) (counted_left c xs)
 
 rises-more : (xs : List Transaction) (x : Transaction) → rises xs ≡ true → are_before xs x.tid ≡ true → rises (xs ++ x ∷ []) ≡ true
 rises-more [] x h b = refl
-rises-more (y ∷ ys) x h b = let s = both-of (are_above y.tid ys) (rises ys) h in let p = both-of (name_below y.tid x.tid) (are_before ys x.tid) b in rw (above-more ys s.0 p.0, rises-more ys x s.1 p.1) refl
+rises-more (y ∷ ys) x h b = let s = and_parts (are_above y.tid ys) (rises ys) h in let p = and_parts (name_below y.tid x.tid) (are_before ys x.tid) b in rw (above-more ys s.0 p.0, rises-more ys x s.1 p.1) refl
   where
     above-more : (zs : List Transaction) → are_above y.tid zs ≡ true → name_below y.tid x.tid ≡ true → are_above y.tid (zs ++ x ∷ []) ≡ true
     above-more [] h b = rw b refl
-    above-more (z ∷ zs) h b = let s = both-of (name_below y.tid z.tid) (are_above y.tid zs) h in rw (s.0, above-more zs s.1 b) refl
+    above-more (z ∷ zs) h b = let s = and_parts (name_below y.tid z.tid) (are_above y.tid zs) h in rw (s.0, above-more zs s.1 b) refl
 
 committed-more : (T : Tid) (xs : List Transaction) (c : ClientNo) (q : RequestNo) (U : Tid) → committed_at T (xs ++ new_transaction c q U ∷ []) ≡ committed_at T xs
 committed-more T [] c q U = grind arith
@@ -76,7 +76,7 @@ closed-before x (Committed d) T xs h b = by (all_in d.works d.done)
 
 pub before-closing : (c : ClientNo) (T : Tid) (xs : List Transaction) → are_before xs T ≡ true → are_before (after_closing c xs) T ≡ true
 before-closing c T [] h = refl
-before-closing c T (x ∷ xs) h = let s = both-of (name_below x.tid T) (are_before xs T) h in by (client_eq x.client c) s.0 (before-closing c T xs s.1)
+before-closing c T (x ∷ xs) h = let s = and_parts (name_below x.tid T) (are_before xs T) h in by (client_eq x.client c) s.0 (before-closing c T xs s.1)
   where
     by : (b : Bool) → name_below x.tid T ≡ true → are_before (after_closing c xs) T ≡ true → are_before (if b then closed x.stage x ++ after_closing c xs else x ∷ after_closing c xs) T ≡ true
     by true h again = closed-before x x.stage T (after_closing c xs) h again

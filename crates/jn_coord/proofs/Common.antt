@@ -37,6 +37,7 @@ pub use Rattle.jn_transactions.specs.Stages.{goes, is_decided, is_aborted}
 pub use Rattle.jn_coord.specs.Closing.{ClientClosed, ClosesClient, left_by, changes_by, going_in, LetsGo, GoneFrom, StaysOrGoes, ClosesOn, ClosesNext, ClosingStopped, ClosesAll}
 pub use Rattle.jn_transactions.specs.Closing.{count_left, takes_part, next_closing, tid_in, is_of, known_stage, known, knowing}
 pub use Rattle.jn_coord.specs.Beginning.{are_before, TicketsFit, new_transaction, with_request, with_begun}
+pub use Rattle.std.proofs.lemmas.Bool.{and_parts}
 pub use Rattle.jn_storage.proofs.Laws.{storage_refl, storage_trans}
 pub use Rattle.jn_base.specs.declared.fault.CallFault.TheVariants.{Memory, Stopped}
 pub use Rattle.jn_transactions.proofs.Sends.{longer_same, added_none}

@@ -1,8 +1,7 @@
 -- The next name comes after all that are live, row by row.
-use Rattle.jn_coord.proofs.Common.{◌≡◌, ℕ, Bool, true, false, not, nat_eq, nat_lt, ◌+◌, ◌&&◌, if◌then◌else◌, List, [], ◌∷◌, ◌++◌, Option, Some, None, Result, Ok, Err, length, refl, sym, ◌∙◌, ap, arith, is_ok, nat_tests, ClientNo, Tid, WorkId, Tickets, tid_eq, Collected, Message, Vote, Transaction, Stage, Open, Voting, Committed, Aborted, Commitment, Ballot, Change, AddReady, MarkGoing, CarryOut, RemoveWork, AddFlag, DropFlag, StableState, made_by, made_all, RowOutcome, CoordinatorTable, transaction_at, with_stage, without, is_work, with_work, all_in, changes_of_closing, name_from, begun_by, begin_new, begin_again, begin_row, end_promised, end_stage, end_row, abort_stage, abort_request, forget_row, thanks_stage, thanks_row, told_stage, inquire_row, counted_vote, vote_stage, vote_row, done_stage, done_row, coordinator_row, thanked, all_thanked, flags_of_thanked, StorageView, state, name_below, Remembered, table_of, CallFault, IsDone, ClosesClient, are_before, TicketsFit, RequestNo}
+use Rattle.jn_coord.proofs.Common.{◌≡◌, ℕ, Bool, true, false, not, nat_eq, nat_lt, ◌+◌, ◌&&◌, if◌then◌else◌, List, [], ◌∷◌, ◌++◌, Option, Some, None, Result, Ok, Err, length, refl, sym, ◌∙◌, ap, arith, is_ok, nat_tests, ClientNo, Tid, WorkId, Tickets, tid_eq, Collected, Message, Vote, Transaction, Stage, Open, Voting, Committed, Aborted, Commitment, Ballot, Change, AddReady, MarkGoing, CarryOut, RemoveWork, AddFlag, DropFlag, StableState, made_by, made_all, RowOutcome, CoordinatorTable, transaction_at, with_stage, without, is_work, with_work, all_in, changes_of_closing, name_from, begun_by, begin_new, begin_again, begin_row, end_promised, end_stage, end_row, abort_stage, abort_request, forget_row, thanks_stage, thanks_row, told_stage, inquire_row, counted_vote, vote_stage, vote_row, done_stage, done_row, coordinator_row, thanked, all_thanked, flags_of_thanked, StorageView, state, name_below, Remembered, table_of, CallFault, IsDone, ClosesClient, are_before, TicketsFit, RequestNo, and_parts}
 use Rattle.jn_msgs.specs.declared.message.Message.TheVariants as messages
 use Rattle.jn_msgs.specs.declared.message.Vote.TheVariants as votes
-use Rattle.jn_coord.proofs.Restart.{both-of}
 use Rattle.jn_coord.proofs.Beginnings.{before-closing}
 
 record Onward (k : Tickets) (row : RowOutcome CoordinatorTable) : Type 0 where
@@ -15,7 +14,7 @@ Before t k = are_before t.transactions (name_from k) ≡ true
 
 before-staged : (T U : Tid) (s : Stage) (xs : List Transaction) → are_before xs U ≡ true → are_before (with_stage T s xs) U ≡ true
 before-staged T U s [] h = refl
-before-staged T U s (x ∷ xs) h = let p = both-of (name_below x.tid U) (are_before xs U) h in by (tid_eq x.tid T) p.0 p.1 (before-staged T U s xs p.1)
+before-staged T U s (x ∷ xs) h = let p = and_parts (name_below x.tid U) (are_before xs U) h in by (tid_eq x.tid T) p.0 p.1 (before-staged T U s xs p.1)
   where
     by : (b : Bool) → name_below x.tid U ≡ true → are_before xs U ≡ true → are_before (with_stage T s xs) U ≡ true → are_before (if b then record x { stage = s } ∷ xs else x ∷ with_stage T s xs) U ≡ true
     by true h rest again = rw (h, rest) refl
@@ -23,7 +22,7 @@ before-staged T U s (x ∷ xs) h = let p = both-of (name_below x.tid U) (are_bef
 
 before-without : (T U : Tid) (xs : List Transaction) → are_before xs U ≡ true → are_before (without T xs) U ≡ true
 before-without T U [] h = refl
-before-without T U (x ∷ xs) h = let p = both-of (name_below x.tid U) (are_before xs U) h in by (tid_eq x.tid T) p.0 p.1 (before-without T U xs p.1)
+before-without T U (x ∷ xs) h = let p = and_parts (name_below x.tid U) (are_before xs U) h in by (tid_eq x.tid T) p.0 p.1 (before-without T U xs p.1)
   where
     by : (b : Bool) → name_below x.tid U ≡ true → are_before xs U ≡ true → are_before (without T xs) U ≡ true → are_before (if b then xs else x ∷ without T xs) U ≡ true
     by true h rest again = rest
@@ -102,7 +101,7 @@ now-below k = grind (arith, nat_tests)
 
 before-next : (k : Tickets) (x : Transaction) (xs : List Transaction) → x.tid ≡ name_from k → are_before xs (name_from k) ≡ true → are_before (xs ++ x ∷ []) (name_from (record k { next = k.next + 1 })) ≡ true
 before-next k x [] e h = rw (e, now-below k) refl
-before-next k x (y ∷ ys) e h = let p = both-of (name_below y.tid (name_from k)) (are_before ys (name_from k)) h in rw (below-next y.tid k p.0, before-next k x ys e p.1) refl
+before-next k x (y ∷ ys) e h = let p = and_parts (name_below y.tid (name_from k)) (are_before ys (name_from k)) h in rw (below-next y.tid k p.0, before-next k x ys e p.1) refl
 
 begin-new-on : (t : CoordinatorTable) (cs : List Change) (k : Tickets) (c : ClientNo) (q : RequestNo) → Before t k → Onward k (begin_new t cs k c q)
 begin-new-on t cs k c q h = if-on k (nat_lt (length t.transactions) 64) _ _ (record { server = refl; epoch = refl; before = before-next k _ t.transactions refl h }) (same-on t k _ h refl refl)
@@ -176,7 +175,7 @@ thanked-before x (Committed d) T xs h b = by (all_in d.works d.done)
 
 before-thanked : (T : Tid) (xs : List Transaction) → are_before xs T ≡ true → are_before (all_thanked xs) T ≡ true
 before-thanked T [] h = refl
-before-thanked T (x ∷ xs) h = let p = both-of (name_below x.tid T) (are_before xs T) h in thanked-before x x.stage T (all_thanked xs) p.0 (before-thanked T xs p.1)
+before-thanked T (x ∷ xs) h = let p = and_parts (name_below x.tid T) (are_before xs T) h in thanked-before x x.stage T (all_thanked xs) p.0 (before-thanked T xs p.1)
 
 pub clients-kept : (r r' : Remembered) (v w : StorageView) (a : Result (Unit {0}) CallFault) → ClosesClient None r v a r' w → is_ok a ≡ true → (k : Tickets) → TicketsFit r v k → TicketsFit r' w k
 clients-kept r r' v w (Ok x) f e k fit = record {

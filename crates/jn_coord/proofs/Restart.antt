@@ -1,5 +1,5 @@
 -- Flags come to their places after a restart.
-use Rattle.jn_coord.proofs.Common.{◌≡◌, ⊎_elim, ℕ, zero, suc, Bool, true, false, ◌⊎◌, ◌≢◌, nat_eq, ◌+◌, ◌≤◌, ◌<◌, ◌&&◌, ◌||◌, nat_lt, if◌then◌else◌, List, [], ◌∷◌, ◌++◌, Option, Some, None, length, map, replicate, slice_set, slice_index_or, refl, sym, true≢false, ◌∙◌, ap, subst, arith, fun_ext, is_some, nat_tests, length-set, AllByRecursion, ClientNo, Tid, WorkId, client_eq, tid_eq, client_tells, tid_tells, Transaction, StableState, FlagState, flag_state, transaction_at, promised, restored_transaction, restored_transactions, seen_in_flag, seen_in_flags, is_in, are_different, StorageView, IsServing, state, tid_of, TellsFlags, name_below, restored_from, inserted, with_flags, seen_by, are_above, rises, flag_told, committed_at, ballots_fit, with_seen, with_requests, clients_fit, Restored, RequestNo}
+use Rattle.jn_coord.proofs.Common.{◌≡◌, ⊎_elim, ℕ, zero, suc, Bool, true, false, ◌⊎◌, ◌≢◌, nat_eq, ◌+◌, ◌≤◌, ◌<◌, ◌&&◌, ◌||◌, nat_lt, if◌then◌else◌, List, [], ◌∷◌, ◌++◌, Option, Some, None, length, map, replicate, slice_set, slice_index_or, refl, sym, true≢false, ◌∙◌, ap, subst, arith, fun_ext, is_some, nat_tests, length-set, AllByRecursion, ClientNo, Tid, WorkId, client_eq, tid_eq, client_tells, tid_tells, Transaction, StableState, FlagState, flag_state, transaction_at, promised, restored_transaction, restored_transactions, seen_in_flag, seen_in_flags, is_in, are_different, StorageView, IsServing, state, tid_of, TellsFlags, name_below, restored_from, inserted, with_flags, seen_by, are_above, rises, flag_told, committed_at, ballots_fit, with_seen, with_requests, clients_fit, Restored, RequestNo, and_parts}
 use Rattle.std.proofs.lemmas.List.Elements.{recursion_from_All}
 use Rattle.jn_records.specs.declared.flag.Flag.{Flag}
 use Rattle.jn_storage.proofs.Listings.{but, is_in-but, length-but}
@@ -31,13 +31,9 @@ below-total T U h e = grind (arith, nat_tests, h, e)
 below-apart : (T U : Tid) → name_below T U ≡ true → tid_eq U T ≡ false
 below-apart T U h = grind (arith, nat_tests, h)
 
-pub both-of : (a b : Bool) → (a && b) ≡ true → (a ≡ true) × (b ≡ true)
-both-of true b e = (refl, e)
-both-of false b e = absurd (cc e)
-
 above-down : (T U : Tid) (Us : List Tid) → name_below T U ≡ true → names_above U Us ≡ true → names_above T Us ≡ true
 above-down T U [] h g = refl
-above-down T U (V ∷ Vs) h g = let s = both-of (name_below U V) (names_above U Vs) g in rw (below-trans T U V h s.0, above-down T U Vs h s.1) refl
+above-down T U (V ∷ Vs) h g = let s = and_parts (name_below U V) (names_above U Vs) g in rw (below-trans T U V h s.0, above-down T U Vs h s.1) refl
 
 above-placed : (W T : Tid) (Ts : List Tid) → names_above W Ts ≡ true → name_below W T ≡ true → names_above W (placed T Ts) ≡ true
 above-placed W T [] h b = rw b refl
@@ -249,7 +245,7 @@ arranges x before requests (f ∷ fs) rise flagged clients few seen different ap
     out = let h = apart f.tid in let t = tid_tells f.tid f.tid in grind (arith, h)
 
     fit : (nat_lt f.client.0 256 ≡ true) × (clients_fit fs ≡ true)
-    fit = both-of (nat_lt f.client.0 256) (clients_fit fs) clients
+    fit = and_parts (nat_lt f.client.0 256) (clients_fit fs) clients
 
     alone : (is_in tid_eq f.tid (map tid_of fs) ≡ false) × (are_different tid_eq (map tid_of fs) ≡ true)
     alone = (grind (arith, different), grind (arith, different))

@@ -5,6 +5,7 @@ use Rattle.jn_base.specs.declared.names.ServerNo.{ServerNo}
 use Rattle.std.proofs.lemmas.Bool.{cases_lt}
 use Rattle.std.proofs.lemmas.List.{get_or-take, length-take-le}
 use Rattle.jn_memdisk.specs.Pages.{half_at}
+use Rattle.std.proofs.lemmas.Bool.{and_parts}
 
 -- an image with the same bytes, each page of which is good
 module _ (version : ℕ) (s server : ServerNo) (g : Counts) (good_one good_two : ℕ → Bool) (one two : Pages) (same : (p : ℕ) → p < 2 * page_count g → two p ≡ one p) (good : (p : ℕ) → p < 2 * page_count g → good_two p ≡ true) where
@@ -101,9 +102,6 @@ module _ (version : ℕ) (server : ServerNo) (g : Counts) (halves : List Half) (
 
 -- ---- the pages of a disk
 
-both_are : (a b : Bool) → (a && b) ≡ true → (a ≡ true) × (b ≡ true)
-both_are a b h = grind arith
-
 below_is : (a b : ℕ) → a < b → nat_lt a b ≡ true
 below_is a b h = grind (arith, nat_tests)
 
@@ -129,9 +127,9 @@ module _ (server : ServerNo) (g : Counts) (files : Files) (s : DeviceState) (ima
 
   good_page : (p : ℕ) → p < 2 * page_count g → (s.pages p).good ≡ true
   good_page p lt = ⊎_elim
-      (λ low. (both_are ((s.pages p).good) ((s.pages (p + s.count / 2)).good) (sym (ap (λ b. both (if b then p else p - s.count / 2)) (below_is p (s.count / 2) low)) ∙ image.sound.good p lt)).0)
+      (λ low. (and_parts ((s.pages p).good) ((s.pages (p + s.count / 2)).good) (sym (ap (λ b. both (if b then p else p - s.count / 2)) (below_is p (s.count / 2) low)) ∙ image.sound.good p lt)).0)
       (λ past. subst (λ n. (s.pages n).good ≡ true) (let e : p - s.count / 2 + s.count / 2 ≡ p = omega (arith, past) in e)
-      (both_are ((s.pages (p - s.count / 2)).good) ((s.pages (p - s.count / 2 + s.count / 2)).good) (sym (ap (λ b. both (if b then p else p - s.count / 2)) (past_is p (s.count / 2) past)) ∙ image.sound.good p lt)).1)
+      (and_parts ((s.pages (p - s.count / 2)).good) ((s.pages (p - s.count / 2 + s.count / 2)).good) (sym (ap (λ b. both (if b then p else p - s.count / 2)) (past_is p (s.count / 2) past)) ∙ image.sound.good p lt)).1)
       (cases_lt p (s.count / 2))
 
   same_bytes : (p : ℕ) → p < 2 * page_count g → (half_at (take (2 * (s.count / 2)) halves) p).bytes ≡ (image_on server g (pairs_view s)).bytes p

@@ -1,5 +1,5 @@
 -- The cells of a head or a map page with other addresses.
-use Rattle.jn_files.proofs.Common.{◌≡◌, ◌≢◌, ◌⊎◌, inl, inr, ◌<◌, ◌≤◌, ◌+◌, ◌*◌, ◌-◌, ◌%◌, ℕ, zero, suc, Bool, true, false, List, length, drop, refl, sym, ap, subst, ◌∙◌, arith, true≢false, slice_index, slice_set, nat_eq, nat_lt, nat_le, ◌&&◌, if◌then◌else◌, cases_eq, cases_lt, nat_tests, get_or-set_same, get_or-set_other, head_blocks, most_maps, most_blocks, most_cells, map_cell, through, laid, kept_entry, with_entries, cut_inside, is_in_range, laid-block, laid-entry, laid-map, laid-past, cut_addresses, kept_maps, range_of, one_entry, cells_kept}
+use Rattle.jn_files.proofs.Common.{◌≡◌, ◌≢◌, ◌⊎◌, inl, inr, ◌<◌, ◌≤◌, ◌+◌, ◌*◌, ◌-◌, ◌%◌, ℕ, zero, suc, Bool, true, false, List, length, drop, refl, sym, ap, subst, ◌∙◌, arith, true≢false, slice_index, slice_set, nat_eq, nat_lt, nat_le, ◌&&◌, if◌then◌else◌, cases_eq, cases_lt, nat_tests, get_or-set_same, get_or-set_other, head_blocks, most_maps, most_blocks, most_cells, map_cell, through, laid, kept_entry, with_entries, cut_inside, is_in_range, laid-block, laid-entry, laid-map, laid-past, cut_addresses, kept_maps, range_of, one_entry, cells_kept, and_parts}
 use Rattle.jn_files.proofs.Changing.{with_cell}
 use Rattle.std.specs.Prelude.{replicate}
 use Rattle.jn_files.proofs.Cells.{CellCase, InHead, InMap, OfMap, Past, cell_case}
@@ -100,12 +100,8 @@ module _ (old : ℕ → ℕ) (row : List ℕ) (p : ℕ) (high : head_blocks ≤ 
   abbrev inside : ℕ → Bool
   inside q = nat_lt q most_blocks && is_in_range (range_of p) q
 
-  both : (x y : Bool) → (x && y) ≡ true → (x ≡ true) × (y ≡ true)
-  both true y e = (refl, e)
-  both false y e = absurd (true≢false (sym e))
-
   within : (q : ℕ) → inside q ≡ true → (q < most_blocks) × (is_in_range (range_of p) q ≡ true)
-  within q e = let parts = both (nat_lt q most_blocks) (is_in_range (range_of p) q) e in let t : nat_lt q most_blocks ≡ true = parts.0 in (grind (arith, nat_tests, t), parts.1)
+  within q e = let parts = and_parts (nat_lt q most_blocks) (is_in_range (range_of p) q) e in let t : nat_lt q most_blocks ≡ true = parts.0 in (grind (arith, nat_tests, t), parts.1)
 
   p_inside : inside p ≡ true
   p_inside = let t : nat_lt p most_blocks ≡ true = grind (arith, nat_tests, low) in ap (λ (b : Bool). b && is_in_range (range_of p) p) t ∙ in_its_range p high

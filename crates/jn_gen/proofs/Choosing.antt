@@ -1,6 +1,5 @@
 -- Which event the first draw chooses.
-use Rattle.jn_gen.proofs.Common.{◌≡◌, ◌∙◌, ℕ, zero, suc, ◌+◌, ◌-◌, ◌<◌, ◌≤◌, cond, nat_lt, [], ◌∷◌, get_or, inl, inr, refl, ap, arith, nat_tests, get_or_past, Event, Draws, filled, choices, does, event_of, first_epoch, tells}
-use Rattle.std.proofs.lemmas.Bool.{cases_lt}
+use Rattle.jn_gen.proofs.Common.{◌≡◌, ◌∙◌, ℕ, zero, suc, ◌+◌, ◌-◌, ◌<◌, ◌≤◌, cond, nat_lt, [], ◌∷◌, get_or, inl, inr, refl, ap, arith, nat_tests, get_or_past, Event, Draws, filled, choices, does, event_of, first_epoch, tells, cases_lt}
 use Rattle.jn_base.specs.declared.op.Command.TheVariants as commands
 use Rattle.jn_base.specs.declared.op.Op.TheVariants as ops
 use Rattle.jn_schedule.specs.declared.Event.TheVariants as events

@@ -7,6 +7,7 @@ pub use Rattle.jn_gen.specs.declared.draws.Draws.{Draws}
 pub use Rattle.jn_schedule.specs.Grammar.{filled, kind_parts, AreLines, IsSchedule, has_bytes, parts_of, word_lines, words_of, Part, Keyword, Client, Number, Name, Bytes, IsByte, SpellsBlock, SpellsName, SpellsPart, SpellsParts, op_parts, command_parts}
 pub use Rattle.jn_gen.specs.Trial.{choices, does, event_of, first_epoch, tells, after_event, draws_from, fault_of, state_after}
 unfoldable pub use Rattle.jn_gen.specs.Trial.{draw, events_from, next_state}
+pub use Rattle.std.proofs.lemmas.Bool.{cases_lt, and_parts}
 pub use Rattle.std.specs.List.{AllByRecursion, onto_first, slice_split}
 pub use Rattle.jn_schedule.specs.Ranges.{EventInRange, PartsInRange, PartInRange}
 pub use Rattle.jn_gen.specs.Spell.{IsOfBytes, spelled}

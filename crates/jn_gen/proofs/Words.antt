@@ -1,5 +1,5 @@
 -- The words of an event's parts: each spells its part, and can stand in a line.
-use Rattle.jn_gen.proofs.Common.{◌≡◌, ◌∙◌, ℕ, ◌+◌, ◌-◌, ◌/◌, ◌%◌, ◌^◌, ◌<◌, ◌≤◌, zero, suc, Bool, true, false, not, ◌&&◌, nat_eq, nat_lt, List, [], ◌∷◌, ◌++◌, length, replicate, get_or, codes, decimal, map, refl, ap, sym, arith, append_assoc, lit<, nat_tests, length-append, length-replicate, AllByRecursion, FaultKind, Event, Part, Keyword, Client, Number, Name, Bytes, IsByte, SpellsBlock, SpellsName, SpellsPart, SpellsParts, has_bytes, parts_of, op_parts, command_parts, kind_parts, PartInRange, PartsInRange, part_word, tid_word, IsOfBytes}
+use Rattle.jn_gen.proofs.Common.{◌≡◌, ◌∙◌, ℕ, ◌+◌, ◌-◌, ◌/◌, ◌%◌, ◌^◌, ◌<◌, ◌≤◌, zero, suc, Bool, true, false, not, ◌&&◌, nat_eq, nat_lt, List, [], ◌∷◌, ◌++◌, length, replicate, get_or, codes, decimal, map, refl, ap, sym, arith, append_assoc, lit<, nat_tests, length-append, length-replicate, AllByRecursion, FaultKind, Event, Part, Keyword, Client, Number, Name, Bytes, IsByte, SpellsBlock, SpellsName, SpellsPart, SpellsParts, has_bytes, parts_of, op_parts, command_parts, kind_parts, PartInRange, PartsInRange, part_word, tid_word, IsOfBytes, and_parts}
 use Rattle.std.proofs.lemmas.Fmt.{decimal_by_steps, decimal_digit, decimal_nonempty}
 use Rattle.hex.specs.Hex.{encode_lower, encode_with, lower_digits}
 use Rattle.jn_base.specs.declared.device.FaultKind.TheVariants as kinds
@@ -91,16 +91,11 @@ event_plain (events.Show s) = refl
 
 -- ---- each kind of part
 
-both : (a b : Bool) → (a && b) ≡ true → (a ≡ true) × (b ≡ true)
-both true true h = (refl, refl)
-both true false h = absurd cc
-both false b h = absurd cc
-
 keyword_word : (k : List ℕ) → is_plain (Keyword k) ≡ true → IsWord k
 keyword_word k h =
-    let first = both (has_bytes k) (lacks 32 k && (lacks 10 k && lacks 35 k)) h in
-    let second = both (lacks 32 k) (lacks 10 k && lacks 35 k) first.1 in
-    let third = both (lacks 10 k) (lacks 35 k) second.1 in
+    let first = and_parts (has_bytes k) (lacks 32 k && (lacks 10 k && lacks 35 k)) h in
+    let second = and_parts (lacks 32 k) (lacks 10 k && lacks 35 k) first.1 in
+    let third = and_parts (lacks 10 k) (lacks 35 k) second.1 in
     record { some = first.0; spaces = second.0; feeds = third.0; comments = third.1 }
 
 is_some : (b : ℕ) (w : List ℕ) → nat_eq (length (b ∷ w)) 0 ≡ false
@@ -163,7 +158,7 @@ client_spelled c few = ap (λ (w : List ℕ). 99 ∷ w) (decimal_digit c (omega 
 lacks-get_or : (byte : ℕ) (xs : List ℕ) (i : ℕ) → lacks byte xs ≡ true → i < length xs → nat_eq (get_or xs i 0) byte ≡ false
 lacks-get_or byte [] i h within = absurd (omega arith)
 lacks-get_or byte (x ∷ xs) zero h within = grind (arith, nat_tests)
-lacks-get_or byte (x ∷ xs) (suc i) h within = lacks-get_or byte xs i (both (not (nat_eq x byte)) (lacks byte xs) h).1 (omega arith)
+lacks-get_or byte (x ∷ xs) (suc i) h within = lacks-get_or byte xs i (and_parts (not (nat_eq x byte)) (lacks byte xs) h).1 (omega arith)
 
 lacks-cons : (byte x : ℕ) (xs : List ℕ) → nat_eq x byte ≡ false → lacks byte xs ≡ true → lacks byte (x ∷ xs) ≡ true
 lacks-cons byte x xs other rest = rw (other, rest) refl
@@ -251,7 +246,7 @@ part_spelled (Bytes stored) range bytes = block_spelled stored range bytes
 parts_are_words : (ps : List Part) → PartsInRange ps → AllByRecursion IsOfBytes ps → are_plain ps ≡ true → AllByRecursion IsWord (map part_word ps)
 parts_are_words [] range bytes plain = tt
 parts_are_words (p ∷ ps) range bytes plain =
-    let h = both (is_plain p) (are_plain ps) plain in
+    let h = and_parts (is_plain p) (are_plain ps) plain in
     (part_is_word p range.0 bytes.0 h.0, parts_are_words ps range.1 bytes.1 h.1)
 
 parts_spelled : (ps : List Part) → PartsInRange ps → AllByRecursion IsOfBytes ps → SpellsParts ps (map part_word ps)

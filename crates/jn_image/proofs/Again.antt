@@ -1,5 +1,5 @@
 -- The bytes of an image are read as that image, and what was read is the image of these bytes.
-use Rattle.jn_image.proofs.Common.{◌≡◌, ◌≤◌, ◌+◌, ◌*◌, ℕ, Bool, true, false, List, [], ◌++◌, length, take, drop, None, refl, sym, ap, ap₂, subst, ◌∙◌, append_assoc, arith, length-append, length-drop, ◌&&◌, nat_le, codes, bytes_eq, take-add, false≢true, nat_tests, append-nil, take_at, drop_at, sha256, Half, Counts, page_count, Image, bad_of, version_in, server_in, counts_in, in_range, within, statuses_fit, has_digest, image_counts, header_bytes, body_bytes, image_bytes, body_size, image_size, HasForm, IsWithin, PagesFit, halves_in, image_in, IsVersion, format_version, ◌⊎◌, inl, inr, ⊎_elim, ◌<◌}
+use Rattle.jn_image.proofs.Common.{◌≡◌, ◌≤◌, ◌+◌, ◌*◌, ℕ, Bool, true, false, List, [], ◌++◌, length, take, drop, None, refl, sym, ap, ap₂, subst, ◌∙◌, append_assoc, arith, length-append, length-drop, ◌&&◌, nat_le, codes, bytes_eq, take-add, false≢true, nat_tests, append-nil, take_at, drop_at, sha256, Half, Counts, page_count, Image, bad_of, version_in, server_in, counts_in, in_range, within, statuses_fit, has_digest, image_counts, header_bytes, body_bytes, image_bytes, body_size, image_size, HasForm, IsWithin, PagesFit, halves_in, image_in, IsVersion, format_version, ◌⊎◌, inl, inr, ⊎_elim, ◌<◌, and_parts}
 use Rattle.std.proofs.lemmas.Slice.Eq.{bytes_eq-Decides}
 use Rattle.sha2.proofs.Facts256.{length-sha256}
 use Rattle.jn_image.proofs.Halves.{written, halves_again, statuses_again, length-written, length-halves_in, halves_fit, halves_written}
@@ -24,10 +24,6 @@ most_at a b e = grind (arith, nat_tests, e)
 two : (a b : Bool) → a ≡ true → b ≡ true → (a && b) ≡ true
 two a b ea eb = rw (ea, eb) refl
 
-of_two : (a b : Bool) → (a && b) ≡ true → (a ≡ true) × (b ≡ true)
-of_two true b e = (refl, e)
-of_two false b e = absurd (false≢true e)
-
 four : (a b c d : Bool) → a ≡ true → b ≡ true → c ≡ true → d ≡ true → (a && b && c && d) ≡ true
 four a b c d ea eb ec ed = rw (ea, eb, ec, ed) refl
 
@@ -42,7 +38,7 @@ is_within : (limit n : ℕ) → IsWithin limit n → within limit n ≡ true
 is_within limit n h = two (nat_le 1 n) (nat_le n limit) (at_most 1 n h.0) (at_most n limit h.1)
 
 within_is : (limit n : ℕ) → within limit n ≡ true → IsWithin limit n
-within_is limit n e = let h = of_two (nat_le 1 n) (nat_le n limit) e in (most_at 1 n h.0, most_at n limit h.1)
+within_is limit n e = let h = and_parts (nat_le 1 n) (nat_le n limit) e in (most_at 1 n h.0, most_at n limit h.1)
 
 version_within : {n : ℕ} → IsVersion n → within format_version n ≡ true
 version_within (inl e) = ap (within format_version) e

@@ -2,7 +2,7 @@
 pub use Rattle.std.proofs.Common.{◌≡◌, ◌≤◌, ◌+◌, ◌*◌, ℕ, Bool, true, false, List, [], ◌++◌, length, take, drop, None, refl, sym, ap, ap₂, subst, ◌∙◌, append_assoc, arith, length-append, length-drop, ◌⊎◌, inl, inr, ⊎_elim, ◌<◌, zero, suc, Result, Ok, Err, ◌∷◌, get_or, map, Option, Some, ◌/◌, ◌%◌, ◌-◌, cond, replicate, ◌^◌, ◌≢◌, true≢false, vec_len, rules}
 pub use Rattle.std.specs.Prelude.{◌&&◌, nat_le, codes, bytes_eq, IfOk, IfErr, nat_eq, slice_index, flat_map, if◌then◌else◌, is_some, not, nat_lt, IsTrue, ◌↔◌, slice_set, MatchResult, MatchOption}
 pub use Rattle.std.proofs.Math.Seq.{take-add, drop-cons}
-pub use Rattle.std.proofs.lemmas.Bool.{false≢true, cases_lt, and_parts}
+pub use Rattle.std.proofs.lemmas.Bool.{false≢true, and_parts, cases_lt}
 pub use Rattle.std.proofs.lemmas.Bool.Decides.{nat_tests}
 pub use Rattle.std.proofs.lemmas.List.{append-nil, take_at, drop_at, length-take-le, get_or_past, get_or-drop, get_or-append-add, length-replicate, length-set, get_or-set_same, get_or-set_other, take_rest, take_all}
 pub use Rattle.sha2.specs.Sha256.{sha256}

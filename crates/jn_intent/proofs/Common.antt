@@ -2,7 +2,7 @@
 pub use Rattle.std.proofs.Common.{◌≡◌, ◌≢◌, ◌⊎◌, inl, inr, ⊎_elim, ◌<◌, ◌≤◌, ◌+◌, ◌-◌, ◌/◌, ℕ, suc, Bool, true, false, not, ◌&&◌, ◌||◌, if◌then◌else◌, List, [], ◌∷◌, length, drop, Option, Some, None, refl, sym, ◌∙◌, ap, subst, true≢false, arith, zero, ◌*◌, ◌%◌, ◌++◌, length-append, ◌^◌, vec_capacity, rules}
 pub use Rattle.std.specs.Prelude.{map, Result, Ok, nat_lt, nat_le, nat_eq, is_ok, is_some, slice_get, slice_set, slice_index_or, option_map, take, slice_index, replicate, option_and_then, count_by, position, Err, filter, IfOk, vec_len}
 pub use Rattle.std.proofs.Math.Path.{fun_ext}
-pub use Rattle.std.proofs.lemmas.Bool.{cases_eq, false_from_ne_true, cases_lt}
+pub use Rattle.std.proofs.lemmas.Bool.{cases_eq, false_from_ne_true, cases_lt, and_parts}
 pub use Rattle.std.proofs.lemmas.Bool.Decides.{nat_tests}
 pub use Rattle.std.proofs.lemmas.List.{get_or_read, get_or-set_same, get_or-set_other, length-set, length-map, get_or_past, map-append}
 pub use Rattle.std.proofs.lemmas.List.Sums.{sum_by-cons, count_by-le-length, sum_by-set, sum_by-append, sum_by-take-le}
@@ -40,7 +40,7 @@ pub use Rattle.jn_storage.specs.Finding.{find_by}
 pub use Rattle.jn_storage.specs.Listing.{are_different, IsListing, total, is_in}
 pub use Rattle.jn_storage.proofs.Listings.{but, is_in-but, total-but, total-same, listing-less, listing-more, listing-same, length-but, Tells}
 pub use Rattle.jn_storage.specs.Storage.{IsServing, is_stored, most_pages, map_eq, has_map, Accounts, StorageView}
-pub use Rattle.jn_storage.specs.Orderly.{IsLoadable, file_there, list_of, IsOrderly, IsPrepared, GoTogether, unit_of, unit_by, needs_file, takes_away, first_of, needed}
+pub use Rattle.jn_storage.specs.Orderly.{IsLoadable, file_there, list_of, IsOrderly, IsPrepared, unit_of, unit_by, needs_file, takes_away, first_of, held_by, needed}
 pub use Rattle.jn_rows.specs.Worker.{intentions_of}
 pub use Rattle.jn_storage.proofs.Finds.{find-set, keys-set, find-at, find-listed, find-add, different-add, map-add, find-kept, keys-kept, different-kept}
 pub use Rattle.jn_storage.proofs.Intended.{made_there, there-after, one_if, entry-of, unit-of}
@@ -85,6 +85,7 @@ pub use Rattle.jn_records.specs.declared.work.WorkHead.{WorkHead}
 pub use Rattle.jn_sets.specs.Sets.{Puts}
 pub use Rattle.jn_recovery.proofs.Pool.{position_at, none_position, step_of, free_same, names_kept, rubbish_kept, work_stays, flags_stay, free_more, free_less, idle_same, idle_works, free_is, rubbish_moves}
 pub use Rattle.jn_recovery.proofs.WorkStates.{serves_marked, IsRemoved, serves_removed}
+pub use Rattle.jn_locks.specs.Locks.{GoTogether, is_unit}
 pub use Rattle.jn_page_state.proofs.HeldLaws.{contents_held, layouts_held}
 pub use Rattle.jn_intent.specs.Preparing.{BlockStored, PoolPreparing, IsPreparing, StopsUnchanged, Begins, ListStored, stored_as, TakesMap, RecordStored, IntentionStored, MayStore, PagesPreparing, StorePreparing, pages_taken, FillsPage, IsOwnPage}
 pub use Rattle.jn_page_state.proofs.Picking.{fewer_found, fewer_recoverable, same_found, same_recoverable}

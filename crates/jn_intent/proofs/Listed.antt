@@ -1,5 +1,5 @@
 -- The pages that a prepared work's intentions name.
-use Rattle.jn_intent.proofs.Common.{◌≡◌, inl, inr, ⊎_elim, ◌<◌, ◌≤◌, ◌+◌, ◌-◌, ◌/◌, ℕ, zero, suc, Bool, true, false, not, ◌&&◌, ◌||◌, if◌then◌else◌, List, length, Option, Some, None, refl, sym, ◌∙◌, ap, subst, true≢false, arith, cases_eq, nat_tests, nat_eq, slice_set, option_and_then, find, list_all, list_any, Tid, WorkId, work_eq, work_tells, stored_in, with_first, intentions_from, works_name, PassesOnce, HasIntentions, Intends, Gives, found_once, at_set, StoredIntention, Record, Free, Intention, Ready, Going, FlagRecord, record_in, is_prepared, is_intention, found_at, is_at, ArePagesApart, names_address, head_blocks, most_blocks, map_cell}
+use Rattle.jn_intent.proofs.Common.{◌≡◌, inl, inr, ⊎_elim, ◌<◌, ◌≤◌, ◌+◌, ◌-◌, ◌/◌, ℕ, zero, suc, Bool, true, false, not, ◌&&◌, ◌||◌, if◌then◌else◌, List, length, Option, Some, None, refl, sym, ◌∙◌, ap, subst, true≢false, arith, cases_eq, nat_tests, nat_eq, slice_set, option_and_then, find, list_all, list_any, Tid, WorkId, work_eq, work_tells, stored_in, with_first, intentions_from, works_name, PassesOnce, HasIntentions, Intends, Gives, found_once, at_set, StoredIntention, Record, Free, Intention, Ready, Going, FlagRecord, record_in, is_prepared, is_intention, found_at, is_at, ArePagesApart, names_address, head_blocks, most_blocks, map_cell, and_parts}
 use Rattle.jn_intent.proofs.Naming.{found_intention, intention_has, given_cell}
 
 -- an intention of the work, from a place among them on, has the page
@@ -170,9 +170,6 @@ module _ (pool : List Record) (apart : WorksApart pool) (work : WorkId) (prepare
     no_free : {w : WorkId} {u : Tid} {k : ℕ} {s : StoredIntention} → Free ≡ Intention w u k s → ⊥
     no_free e = cc e
 
-    both : (p q : Bool) → (p && q) ≡ true → (p ≡ true) × (q ≡ true)
-    both p q h = grind arith
-
     stays : (a : ℕ) → works_name pool (suc a) ≡ true → list_any (is_at a) (intentions_from pool work 0 n) ≡ false → works_name (slice_set pool slot Free) (suc a) ≡ true
     stays a named unlisted =
         let at = found_intention (names_address (suc a)) pool named in
@@ -198,7 +195,7 @@ module _ (pool : List Record) (apart : WorksApart pool) (work : WorkId) (prepare
         let at = found_intention (names_address (suc a)) (slice_set pool slot Free) named in
         let i = at.0 in let s = at.1 in let it = at.2 in
         let same : record_in (slice_set pool slot Free) i ≡ record_in pool i = ⊎_elim (λ h. absurd (no_free (sym h.1 ∙ it.stands))) (λ h. h.1) (at_set Free pool slot Free below i) in
-        let was = both (list_any (is_prepared it.work) pool) (not (work_eq work it.work)) (sym (gone it.work) ∙ it.prepared) in
+        let was = and_parts (list_any (is_prepared it.work) pool) (not (work_eq work it.work)) (sym (gone it.work) ∙ it.prepared) in
         let before : Intends pool i s = record { work = it.work; tid = it.tid; order = it.order; stands = sym same ∙ it.stands; prepared = was.0 } in
         (intention_has (names_address (suc a)) pool i s before at.3, none it.work it.tid it.order i s (sym same ∙ it.stands) before was.1 at.3 (list_any (is_at a) (intentions_from pool work 0 n)) refl)
       where

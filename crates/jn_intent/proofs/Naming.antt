@@ -1,5 +1,5 @@
 -- Which data pages layouts and prepared works name, cell by cell.
-use Rattle.jn_intent.proofs.Common.{◌≡◌, ◌⊎◌, inl, inr, ◌<◌, ◌-◌, ◌/◌, ℕ, zero, suc, Bool, true, false, not, ◌&&◌, ◌||◌, List, refl, sym, ◌∙◌, ap, subst, true≢false, arith, false_from_ne_true, nat_tests, nat_eq, nat_le, list_any, What, Fresh, Gone, Cut, Put, Contents, heads_name, AddressesDiffer, Intends, StoredIntention, Record, Free, Intention, Ready, Going, FlagRecord, record_in, is_prepared, intention_has_page, names_what_it_needs, passes_at, passes_any, head_blocks, works_have, holds_intention, layouts_said, Addresses, Gives, names_address, Layout, Unused, at_cell, layout_at, is_layout_of, map_cell, has_address, has-at, has-found, AreNamedOnce}
+use Rattle.jn_intent.proofs.Common.{◌≡◌, ◌⊎◌, inl, inr, ◌<◌, ◌-◌, ◌/◌, ℕ, zero, suc, Bool, true, false, not, ◌&&◌, ◌||◌, List, refl, sym, ◌∙◌, ap, subst, true≢false, arith, false_from_ne_true, nat_tests, nat_eq, nat_le, list_any, What, Fresh, Gone, Cut, Put, Contents, heads_name, AddressesDiffer, Intends, StoredIntention, Record, Free, Intention, Ready, Going, FlagRecord, record_in, is_prepared, intention_has_page, names_what_it_needs, passes_at, passes_any, head_blocks, works_have, holds_intention, layouts_said, Addresses, Gives, names_address, Layout, Unused, at_cell, layout_at, is_layout_of, map_cell, has_address, has-at, has-found, AreNamedOnce, and_parts}
 
 -- ---- layouts
 
@@ -17,9 +17,6 @@ cell_named n layouts a i q below e = passes_any (has_address n (suc a)) Unused l
 
 -- ---- prepared works
 
-both : (a b : Bool) → (a && b) ≡ true → (a ≡ true) × (b ≡ true)
-both a b h = grind arith
-
 -- what passes a test stands in an intention
 pub found_intention : (test : StoredIntention → Bool) (pool : List Record) → works_have test pool ≡ true → (i : ℕ) × (s : StoredIntention) × Intends pool i s × (test s ≡ true)
 found_intention test pool named =
@@ -30,7 +27,7 @@ found_intention test pool named =
     by i (Ready head n reads) e t = absurd (true≢false (sym t))
     by i (Going head n reads) e t = absurd (true≢false (sym t))
     by i (FlagRecord f) e t = absurd (true≢false (sym t))
-    by i (Intention w u k s) e t = let h = both (test s) (list_any (is_prepared w) pool) t in
+    by i (Intention w u k s) e t = let h = and_parts (test s) (list_any (is_prepared w) pool) t in
         (i, s, record { work = w; tid = u; order = k; stands = e; prepared = h.1 }, h.0)
 
 pub intention_has : (test : StoredIntention → Bool) (pool : List Record) (i : ℕ) (s : StoredIntention) → Intends pool i s → test s ≡ true → works_have test pool ≡ true

@@ -1,6 +1,5 @@
 -- Where the intentions of one file stand in a work's list.
-use Rattle.jn_intent.proofs.Common.{◌≡◌, inr, ◌<◌, ℕ, zero, suc, Bool, true, false, not, ◌&&◌, ◌||◌, if◌then◌else◌, List, [], ◌∷◌, map, Option, Some, None, refl, sym, ◌∙◌, ap, subst, true≢false, arith, nat_tests, slice_get, nat_eq, list_all, FileNo, File, Block, file_eq, file_tells, Files, What, Fresh, Gone, Cut, Put, in_order, entry, intention_place, is_put, is_fresh, as_first, first_by, place_by, Prepared, IsPrepared, GoTogether, unit_of, unit_by, needs_file, takes_away, first_of, file_there, entry-of, unit-of, is_of_file}
-use Rattle.jn_locks.specs.Locks.{is_unit}
+use Rattle.jn_intent.proofs.Common.{◌≡◌, inr, ◌<◌, ℕ, zero, suc, Bool, true, false, not, ◌&&◌, ◌||◌, if◌then◌else◌, List, [], ◌∷◌, map, Option, Some, None, refl, sym, ◌∙◌, ap, subst, true≢false, arith, nat_tests, slice_get, nat_eq, list_all, FileNo, File, Block, file_eq, file_tells, Files, What, Fresh, Gone, Cut, Put, in_order, entry, intention_place, is_put, is_fresh, as_first, first_by, place_by, Prepared, IsPrepared, GoTogether, unit_of, unit_by, needs_file, takes_away, first_of, file_there, entry-of, unit-of, is_of_file, is_unit, held_by}
 use Rattle.jn_locks.specs.declared.words.Mode.TheVariants.{Read, Commit}
 use Rattle.jn_records.specs.declared.intention.Intention.{Intention}
 use Rattle.jn_records.proofs.NetLemmas.{no_entry}
@@ -52,7 +51,7 @@ pub one_first : (list : List Intention) (k q : ℕ) (i j : Intention) → in_ord
 one_first list k q i j order at too same un none = some_is (sym (first_at list k i order at un) ∙ ap (λ f. entry list f zero) same ∙ first_at list q j order too none)
 
 -- two works that go together have no such intention of one file
-pub not_both : (p q : Prepared) (k l : ℕ) (i j : Intention) → GoTogether p q → slice_get p.list k ≡ Some i → slice_get q.list l ≡ Some j → i.file ≡ j.file → is_put i.what ≡ false → is_put j.what ≡ false → ⊥
+pub not_both : (p q : Prepared) (k l : ℕ) (i j : Intention) → GoTogether (held_by p) (held_by q) → slice_get p.list k ≡ Some i → slice_get q.list l ≡ Some j → i.file ≡ j.file → is_put i.what ≡ false → is_put j.what ≡ false → ⊥
 not_both p q k l i j apart at too same un none = true≢false (sym (apart (File i.file) Commit Commit (writes p k i un at) (subst (λ f. is_unit (map unit_of q.list) (File f) ≡ true) (sym same) (writes q l j none too))))
   where
     writes : (p : Prepared) (k : ℕ) (i : Intention) → is_put i.what ≡ false → slice_get p.list k ≡ Some i → is_unit (map unit_of p.list) (File i.file) ≡ true
@@ -120,7 +119,7 @@ one_index (x ∷ xs) last (suc k) zero i j order at too file place = absurd (no_
 one_index (x ∷ xs) last (suc k) (suc q) i j order at too file place = ap suc (one_index xs (Some x) k q i j (grind (arith, order)) at too file place)
 
 -- two works that go together put no block both
-pub not_both_put : (p q : Prepared) (k l : ℕ) (i j : Intention) → GoTogether p q → slice_get p.list k ≡ Some i → slice_get q.list l ≡ Some j → i.what ≡ Put → j.what ≡ Put → i.file ≡ j.file → i.block ≡ j.block → ⊥
+pub not_both_put : (p q : Prepared) (k l : ℕ) (i j : Intention) → GoTogether (held_by p) (held_by q) → slice_get p.list k ≡ Some i → slice_get q.list l ≡ Some j → i.what ≡ Put → j.what ≡ Put → i.file ≡ j.file → i.block ≡ j.block → ⊥
 not_both_put p q k l i j apart at too put also file block = true≢false (sym (apart (Block i.file i.block) Commit Commit (writes p k i put at)
     (subst (λ b. is_unit (map unit_of q.list) (Block i.file b) ≡ true) (sym block) (subst (λ f. is_unit (map unit_of q.list) (Block f j.block) ≡ true) (sym file) (writes q l j also too)))))
   where
@@ -128,7 +127,7 @@ not_both_put p q k l i j apart at too put also file block = true≢false (sym (a
     writes p k i put at = subst (λ u. is_unit (map unit_of p.list) u ≡ true) (ap (λ w. unit_by w i.file i.block) put) (unit-of p.list k i at)
 
 -- and one has no intention of a file that the other writes as a whole
-pub not_whole : (p q : Prepared) (k l : ℕ) (i j : Intention) → GoTogether p q → slice_get p.list k ≡ Some i → slice_get q.list l ≡ Some j → is_put i.what ≡ false → list_all (λ i. is_unit q.reads (File i.file)) q.list ≡ true → i.file ≡ j.file → ⊥
+pub not_whole : (p q : Prepared) (k l : ℕ) (i j : Intention) → GoTogether (held_by p) (held_by q) → slice_get p.list k ≡ Some i → slice_get q.list l ≡ Some j → is_put i.what ≡ false → list_all (λ i. is_unit q.reads (File i.file)) q.list ≡ true → i.file ≡ j.file → ⊥
 not_whole p q k l i j apart at too un reads file = true≢false (sym (apart (File i.file) Commit Read (subst (λ u. is_unit (map unit_of p.list) u ≡ true) (by i.what un) (unit-of p.list k i at))
     (subst (λ f. is_unit q.reads (File f) ≡ true) (sym file) (all_at (λ i. is_unit q.reads (File i.file)) q.list l j reads too))))
   where

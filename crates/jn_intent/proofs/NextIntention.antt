@@ -1,5 +1,5 @@
 -- What is asked to carry out a work's next intention holds while the storage serves.
-use Rattle.jn_intent.proofs.Common.{◌≡◌, ◌≢◌, inl, inr, ◌<◌, ◌≤◌, ◌-◌, ◌/◌, ℕ, zero, suc, Bool, true, false, not, ◌&&◌, if◌then◌else◌, List, [], ◌∷◌, length, map, drop, Option, Some, None, refl, sym, ◌∙◌, ap, subst, arith, nat_tests, slice_get-map, nat_lt, nat_le, slice_get, option_map, take, FileNo, Tid, WorkId, work_eq, head_in, is_of, is_held, exists, layouts_in, MayBecome, MayBring, intended, bytes_by, heads_name, works_have, names_for_block, names_address, held_contents, block_on, pages_by, Intends, Gives, FullIntention, StoredIntention, What, Fresh, Gone, Cut, Put, Intention, WorkState, is_fresh, is_put, data_place, Prepared, Pick, record_in, IsRecord, state, name_of, next_of, find_by, IsPrepared, GoTogether, IsServing, file_there, intentions_of, one_if, makes_file, StoreView, IsClean, Memory, accounts_of, view_of, next_by, Matches, IsMade, HasMaps, stored_work, MayCarry, heads_taken, serves_of, there_found, prepared_of, at_cell, layout_at, map_cell, maps_in, lacks_map, head_blocks, most_blocks, layouts_said, names_block, bare, IsSuppliedBy, contents_held}
+use Rattle.jn_intent.proofs.Common.{◌≡◌, ◌≢◌, inl, inr, ◌<◌, ◌≤◌, ◌-◌, ◌/◌, ℕ, zero, suc, Bool, true, false, not, ◌&&◌, if◌then◌else◌, List, [], ◌∷◌, length, map, drop, Option, Some, None, refl, sym, ◌∙◌, ap, subst, arith, nat_tests, slice_get-map, nat_lt, nat_le, slice_get, option_map, take, FileNo, Tid, WorkId, work_eq, head_in, is_of, is_held, exists, layouts_in, MayBecome, MayBring, intended, bytes_by, heads_name, works_have, names_for_block, names_address, held_contents, block_on, pages_by, Intends, Gives, FullIntention, StoredIntention, What, Fresh, Gone, Cut, Put, Intention, WorkState, is_fresh, is_put, data_place, Prepared, Pick, record_in, IsRecord, state, name_of, next_of, find_by, IsPrepared, GoTogether, IsServing, file_there, intentions_of, one_if, makes_file, StoreView, IsClean, Memory, accounts_of, view_of, next_by, Matches, IsMade, HasMaps, stored_work, MayCarry, heads_taken, serves_of, there_found, prepared_of, at_cell, layout_at, map_cell, maps_in, lacks_map, head_blocks, most_blocks, layouts_said, names_block, bare, IsSuppliedBy, contents_held, held_by}
 use Rattle.jn_intent.proofs.CarryStates.{promises}
 use Rattle.jn_intent.proofs.HeadPuts.{own_layout}
 use Rattle.jn_intent.proofs.LeftMaps.{drop_here, names_lacking}
@@ -117,7 +117,7 @@ module _ (m : Memory) (v : StoreView) (now : Matches m v) (serving : IsServing (
         there : (state (view_of m v)).works o ≡ Some (prepared_of (first_blocks m v) (stored_work t))
         there = work_told m v now o ∙ ap (λ o. option_map (prepared_of (first_blocks m v)) (option_map stored_work o)) found
 
-        apart : GoTogether its_work (prepared_of (first_blocks m v) (stored_work t))
+        apart : GoTogether (held_by its_work) (held_by (prepared_of (first_blocks m v) (stored_work t)))
         apart = serving.orderly.apart work o its_work (prepared_of (first_blocks m v) (stored_work t)) other its_stands there
 
         full_there : slice_get (prepared_of (first_blocks m v) (stored_work t)).list k ≡ Some (intended (first_blocks m v) j)

@@ -13,7 +13,7 @@ pub use Rattle.jn_locks.proofs.Orders.{unit_tells, unit_before-irreflexive, unit
 pub use Rattle.jn_locks.proofs.Collisions.{unit_same, unit_is}
 pub use Rattle.jn_rows.specs.declared.worker.Phase.{Phase}
 pub use Rattle.jn_rows.specs.Worker.{Wanted, has_mode, holds, collides_at, collision, Held, gives_way, work_at, holder_at, held_by, conflict, with_phase, breaks_at, broken_by, note_of, after_grant, break_notes, with_unit, with_units, units_for, wants_of, commit_wants, counted, new_work, without, vulnerable, restored_work, restored_worker, done, is_fit}
-pub use Rattle.jn_lock_rows.specs.Matching.{wants_at, want_list, units_rise, is_unit_before, LocksMatch, held_in, standing_in, standing_of, are_rising, is_before, is_ordered, is_after, units_of_mode, are_ordered, is_name_after, units_of, GoTogether}
+pub use Rattle.jn_lock_rows.specs.Matching.{wants_at, want_list, units_rise, is_unit_before, LocksMatch, held_in, standing_in, standing_of, are_rising, is_before, is_ordered, is_after, units_of_mode, are_ordered, is_name_after, units_of, WorksGoTogether}
 pub use Rattle.jn_base.specs.declared.names.WorkId.{WorkId}
 pub use Rattle.jn_locks.specs.declared.words.Conflict.{Conflict}
 pub use Rattle.jn_locks.specs.Asked.{NoConflict, IsConflict, AreBroken, broken_at, is_broken, is_rising, Asks, Commits, also, committed, Rebuilds, Releases, Exposes, LocksFit, IsConflictFault, IsRefusal}

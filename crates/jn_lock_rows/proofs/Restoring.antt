@@ -1,5 +1,5 @@
 -- The lock table that a restart makes.
-use Rattle.jn_lock_rows.proofs.Common.{◌≡◌, Bool, true, false, List, [], ◌∷◌, ◌++◌, Option, Some, None, refl, sym, ◌∙◌, ap, subst, arith, if◌then◌else◌, WorkId, LockUnit, work_eq, Mode, Read, IntentionWrite, Commit, Table, LocksFit, Rebuilds, Work, holds, work_at, restored_work, restored_worker, LocksMatch, held_in, is_after, is_name_after, units_of, GoTogether}
+use Rattle.jn_lock_rows.proofs.Common.{◌≡◌, Bool, true, false, List, [], ◌∷◌, ◌++◌, Option, Some, None, refl, sym, ◌∙◌, ap, subst, arith, if◌then◌else◌, WorkId, LockUnit, work_eq, Mode, Read, IntentionWrite, Commit, Table, LocksFit, Rebuilds, Work, holds, work_at, restored_work, restored_worker, LocksMatch, held_in, is_after, is_name_after, units_of, WorksGoTogether}
 use Rattle.jn_rows.specs.Stable.{StableState, Prepared}
 use Rattle.jn_lock_rows.specs.Matching.{wants_of}
 use Rattle.jn_lock_rows.proofs.Works.{work_is, not_both}
@@ -47,7 +47,7 @@ restored-from x (W ∷ Ws) V u m h = by (x.works W) refl h (restored-from x Ws V
     by (Some p) e k rest = stored p (work_eq W V) e refl k rest
 
 -- the works before it leave a stable work its locks
-pub restored_fits : (x : StableState) (Ws : List WorkId) (t : Table) (W : WorkId) (p : Prepared) → LocksMatch (restored_worker x Ws) t → GoTogether x.works → x.works W ≡ Some p → LocksFit t W (wants_of p)
+pub restored_fits : (x : StableState) (Ws : List WorkId) (t : Table) (W : WorkId) (p : Prepared) → LocksMatch (restored_worker x Ws) t → WorksGoTogether x.works → x.works W ≡ Some p → LocksFit t W (wants_of p)
 restored_fits x Ws t W p h go e = λ V ne u m n wish held. let r = restored-from x Ws V u n (sym (h.locks V u n) ∙ held) in go W V p r.0 ne e r.1 u m n wish r.2
 
 -- and it is restored with them

@@ -99,8 +99,8 @@ abbrev pub wants_of : Prepared → Wants
 wants_of p = rebuilt (units_of p) p.reads
 
 -- the works of each two names go together
-abbrev pub GoTogether : (WorkId → Option Prepared) → Type 0
-GoTogether works = (V W : WorkId) (p q : Prepared) → V ≢ W → works V ≡ Some p → works W ≡ Some q → (u : LockUnit) (m n : Mode) → wants_of p u m ≡ true → wants_of q u n ≡ true → together m n ≡ true
+abbrev pub WorksGoTogether : (WorkId → Option Prepared) → Type 0
+WorksGoTogether works = (V W : WorkId) (p q : Prepared) → V ≢ W → works V ≡ Some p → works W ≡ Some q → GoTogether (wants_of p) (wants_of q)
 
 abbrev pub is_name_after : WorkId → List WorkId → Bool
 is_name_after W [] = true

@@ -18,7 +18,7 @@ ghost use Rattle.jn_rows.specs.declared.worker.Work.{Work};
 ghost use Rattle.jn_rows.specs.Stable.{Prepared, StableState};
 ghost use Rattle.jn_rows.specs.Worker.{commit_wants, conflict, counted, done, is_fit, new_work, restored_worker, vulnerable, wants_of, with_phase, without, work_at};
 ghost use Rattle.jn_lock_rows.specs.Matching as matching;
-ghost use Rattle.jn_lock_rows.specs.Matching.{GoTogether, LocksMatch, is_after, is_name_after, want_list};
+ghost use Rattle.jn_lock_rows.specs.Matching.{WorksGoTogether, LocksMatch, is_after, is_name_after, want_list};
 ghost use Rattle.jn_lock_rows.specs.Calls.{BreaksAs, FindsConflict, granted};
 
 /// A lock table in which nothing is held and no work is known.
@@ -74,6 +74,6 @@ pub fn a_vulnerable_work_matches()
 
 /// The stable works, in rising order of their names, each with its locks: those of the works before it leave it them.
 pub fn a_restored_work_matches()
-    ensures fits { (x : StableState) (Ws : List WorkId) (t : Table) (W : WorkId) (p : Prepared) → LocksMatch (restored_worker x Ws) t → GoTogether x.works → x.works W ≡ Some p → LocksFit t W (matching.wants_of p) }
+    ensures fits { (x : StableState) (Ws : List WorkId) (t : Table) (W : WorkId) (p : Prepared) → LocksMatch (restored_worker x Ws) t → WorksGoTogether x.works → x.works W ≡ Some p → LocksFit t W (matching.wants_of p) }
     ensures matches { (x : StableState) (Ws : List WorkId) (t now : Table) (W : WorkId) (p : Prepared) → LocksMatch (restored_worker x Ws) t → is_name_after W Ws ≡ true → x.works W ≡ Some p → Rebuilds t W (matching.wants_of p) now → LocksMatch (restored_worker x (Ws ++ W ∷ [])) now }
 {}

@@ -1,5 +1,5 @@
 -- The collisions at the wanted units, and what is said of works and units.
-use Rattle.jn_locks.proofs.Common.{◌≡◌, ◌≢◌, ◌⊎◌, inl, inr, Bool, true, false, List, [], ◌∷◌, ◌++◌, refl, sym, ap, subst, arith, nat_tests, not, ◌&&◌, ◌||◌, if◌then◌else◌, WorkId, LockUnit, work_eq, work_tells, Mode, Read, IntentionWrite, Commit, Modes, Holder, Want, Broken, Held, together, mode_eq, unit_eq, wanted, Wants, some_mode, collides, has, holds_in, clashes, at, table_of, holder_collides, collisions_at, collisions}
+use Rattle.jn_locks.proofs.Common.{◌≡◌, ◌≢◌, ◌⊎◌, inl, inr, Bool, true, false, List, [], ◌∷◌, ◌++◌, refl, sym, ap, subst, arith, nat_tests, not, ◌&&◌, ◌||◌, if◌then◌else◌, WorkId, LockUnit, work_eq, work_tells, Mode, Read, IntentionWrite, Commit, Modes, Holder, Want, Broken, Held, together, mode_eq, unit_eq, wanted, Wants, some_mode, collides, has, holds_in, clashes, at, table_of, holder_collides, collisions_at, collisions, and_parts}
 use Rattle.jn_locks.proofs.Orders.{unit_tells}
 
 abbrev pub Among : {A : Type 0} → A → List A → Type 0
@@ -28,9 +28,6 @@ among_split : {A : Type 0} (l : A) (xs ys : List A) → Among l (xs ++ ys) → A
 among_split l [] ys k = inr k
 among_split l (x ∷ xs) ys (inl e) = inl (inl e)
 among_split l (x ∷ xs) ys (inr k) = elim (among_split l xs ys k) [ inl a ↦ inl (inr a) | inr b ↦ inr b ]
-
-pub both_true : (a b : Bool) → (a && b) ≡ true → (a ≡ true) × (b ≡ true)
-both_true a b h = (grind arith, grind arith)
 
 pub and_true : (a b : Bool) → a ≡ true → b ≡ true → (a && b) ≡ true
 and_true a b h k = grind arith
@@ -66,9 +63,9 @@ in_way_at W w hs V = not (work_eq V W) && some_mode (λ n. holds_in hs V n && no
 
 more_in_way : (W : WorkId) (w : Want) (h : Holder) (hs : List Holder) (V : WorkId) → in_way_at W w hs V ≡ true → in_way_at W w (h ∷ hs) V ≡ true
 more_in_way W w h hs V k =
-    let p = both_true (not (work_eq V W)) (some_mode (λ n. holds_in hs V n && not (together w.mode n))) k in
+    let p = and_parts (not (work_eq V W)) (some_mode (λ n. holds_in hs V n && not (together w.mode n))) k in
     let q = some_mode_has (λ n. holds_in hs V n && not (together w.mode n)) p.1 in
-    let r = both_true (holds_in hs V q.0) (not (together w.mode q.0)) q.1 in
+    let r = and_parts (holds_in hs V q.0) (not (together w.mode q.0)) q.1 in
     and_true (not (work_eq V W)) _ p.0 (some_mode_of (λ n. holds_in (h ∷ hs) V n && not (together w.mode n)) q.0 (and_true (holds_in (h ∷ hs) V q.0) _ (grind (arith, r.0)) r.1))
 
 pub work_same : (V : WorkId) → work_eq V V ≡ true
@@ -76,9 +73,9 @@ work_same V = grind (arith, nat_tests)
 
 first_in_way : (W : WorkId) (w : Want) (h : Holder) (hs : List Holder) → holder_collides W w.mode h ≡ true → in_way_at W w (h ∷ hs) h.work ≡ true
 first_in_way W w h hs k =
-    let p = both_true (not (work_eq h.work W)) (clashes w.mode h.modes) k in
+    let p = and_parts (not (work_eq h.work W)) (clashes w.mode h.modes) k in
     let q = some_mode_has (λ n. has h.modes n && not (together w.mode n)) p.1 in
-    let r = both_true (has h.modes q.0) (not (together w.mode q.0)) q.1 in
+    let r = and_parts (has h.modes q.0) (not (together w.mode q.0)) q.1 in
     and_true (not (work_eq h.work W)) _ p.0
     (some_mode_of (λ n. holds_in (h ∷ hs) h.work n && not (together w.mode n)) q.0 (and_true (holds_in (h ∷ hs) h.work q.0) _ (grind (arith, r.0, work_same h.work)) r.1))
 
@@ -110,7 +107,7 @@ collision_of W w (h ∷ hs) V n apart held odd = by (either_true (work_eq h.work
         (inl (sym (ap (λ (z : WorkId). broken_of z w.unit) is)))
 
     by : (((work_eq h.work V && has h.modes n) ≡ true) ⊎ (holds_in hs V n ≡ true)) → (holds_in hs V n ≡ true → Among (record { work = V; unit = w.unit }) (collisions_at W w hs)) → Among (record { work = V; unit = w.unit }) (collisions_at W w (h ∷ hs))
-    by (inl k) rest = let p = both_true (work_eq h.work V) (has h.modes n) k in
+    by (inl k) rest = let p = and_parts (work_eq h.work V) (has h.modes n) k in
         elim (work_tells h.work V) [ inl q ↦ here q.1 p.1 | inr q ↦ absurd (cc (sym p.0, q.0)) ]
     by (inr k) rest = later (holder_collides W w.mode h) (rest k)
 
@@ -153,9 +150,9 @@ module _ (at : LockUnit → List Holder) (W : WorkId) where
           → (m : Mode) × (n : Mode) × IsClash at W (wanted (w ∷ ws)) b.unit b.work m n
       by (inl l) rest =
           let r = collision_tells W w (at w.unit) b l in
-          let p = both_true (not (work_eq b.work W)) (some_mode (λ n. holds_in (at w.unit) b.work n && not (together w.mode n))) r.1 in
+          let p = and_parts (not (work_eq b.work W)) (some_mode (λ n. holds_in (at w.unit) b.work n && not (together w.mode n))) r.1 in
           let q = some_mode_has (λ n. holds_in (at w.unit) b.work n && not (together w.mode n)) p.1 in
-          let s = both_true (holds_in (at w.unit) b.work q.0) (not (together w.mode q.0)) q.1 in (
+          let s = and_parts (holds_in (at w.unit) b.work q.0) (not (together w.mode q.0)) q.1 in (
             w.mode,
             q.0,
             record {
@@ -173,7 +170,7 @@ module _ (at : LockUnit → List Holder) (W : WorkId) where
     where
       by : (((unit_eq w.unit u && mode_eq w.mode m) ≡ true) ⊎ (wanted ws u m ≡ true)) → (wanted ws u m ≡ true → Among (record { work = V; unit = u }) (collisions at W ws)) → Among (record { work = V; unit = u }) (collisions at W (w ∷ ws))
       by (inl k) rest =
-          let p = both_true (unit_eq w.unit u) (mode_eq w.mode m) k in
+          let p = and_parts (unit_eq w.unit u) (mode_eq w.mode m) k in
           let is = unit_is w.unit u p.0 in
           among_front (record { work = V; unit = u }) (collisions_at W w (at w.unit)) (collisions at W ws)
           (rw (← is)
@@ -194,10 +191,10 @@ module _ (h : Held) (W : WorkId) (ws : List Want) (says : WorkId → Bool) where
 
   pub collision_by : (u : LockUnit) (V : WorkId) → (collides (table_of h) W (wanted ws) u V && says V) ≡ true → Among (record { work = V; unit = u }) (collisions (at h.units) W ws) × (says V ≡ true)
   collision_by u V k =
-      let t = both_true (collides (table_of h) W (wanted ws) u V) (says V) k in
-      let p = both_true (not (work_eq V W)) (some_mode (λ m. some_mode (λ n. wanted ws u m && (holds_in (at h.units u) V n && not (together m n))))) t.0 in
+      let t = and_parts (collides (table_of h) W (wanted ws) u V) (says V) k in
+      let p = and_parts (not (work_eq V W)) (some_mode (λ m. some_mode (λ n. wanted ws u m && (holds_in (at h.units u) V n && not (together m n))))) t.0 in
       let by_m = some_mode_has (λ m. some_mode (λ n. wanted ws u m && (holds_in (at h.units u) V n && not (together m n)))) p.1 in
       let by_n = some_mode_has (λ n. wanted ws u by_m.0 && (holds_in (at h.units u) V n && not (together by_m.0 n))) by_m.1 in
-      let q = both_true (wanted ws u by_m.0) (holds_in (at h.units u) V by_n.0 && not (together by_m.0 by_n.0)) by_n.1 in
-      let r = both_true (holds_in (at h.units u) V by_n.0) (not (together by_m.0 by_n.0)) q.1 in
+      let q = and_parts (wanted ws u by_m.0) (holds_in (at h.units u) V by_n.0 && not (together by_m.0 by_n.0)) by_n.1 in
+      let r = and_parts (holds_in (at h.units u) V by_n.0) (not (together by_m.0 by_n.0)) q.1 in
       (collision_from (at h.units) W ws u V by_m.0 by_n.0 (record { apart = p.0; want = q.0; held = r.0; odd = r.1 }), t.1)

@@ -14,6 +14,7 @@ unfoldable pub use Rattle.jn_locks.specs.Locks.{unit_before, work_before}
 pub use Rattle.jn_locks.specs.Tables.{at, table_of, units_of, prepared, IsSoundTable, unit_place, place_eq, name_of, name_eq, has_room_at, room_of, standing_of, holders_in, room_in, standing_in, units_in}
 pub use Rattle.jn_locks.specs.Asked.{broken_at, is_broken, is_rising, AreBroken, NoConflict, IsConflict, Grants, Asks, Commits, Rebuilds, LocksFit, also, committed, is_wanted_unit, is_lock, stands_in, stand_once, AreHolders, IsRefusal}
 pub use Rattle.jn_locks.specs.Loops.{lesser, least_of, with_broken, all_broken, collisions_at, collisions, makes_way, holder_collides, intentions, intended_at, stays_in_way, least_conflict, conflict_at, conflict_before, lock_if, locks_of, place_among_broken}
+pub use Rattle.std.proofs.lemmas.Bool.{and_parts}
 pub use Rattle.jn_locks.specs.declared.words.Mode.{Mode}
 pub use Rattle.jn_locks.specs.declared.words.Mode.TheVariants.{Read, IntentionWrite, Commit}
 pub use Rattle.jn_locks.specs.declared.words.Modes.{Modes}

@@ -13,7 +13,7 @@ use Rattle.jn_locks.specs.declared.words.Want.{Want}
 use Rattle.jn_locks.specs.declared.words.LockFault.{LockFault}
 use Rattle.jn_locks.specs.declared.words.LockFault.TheVariants.{Conflict as Conflicts, Memory}
 use Rattle.jn_locks.specs.declared.words.Broken.{Broken}
-use Rattle.jn_locks.specs.Locks.{together, mode_eq, Table, Wants, holds, or_active, made_vulnerable, blocks, yields, unit_before, work_before}
+use Rattle.jn_locks.specs.Locks.{mode_eq, GoTogether, Table, Wants, holds, or_active, made_vulnerable, blocks, yields, unit_before, work_before}
 
 -- no work stands in the way
 abbrev pub NoConflict : Table → WorkId → Wants → Type 0
@@ -90,7 +90,7 @@ IsConflictFault t W wants Memory = ⊥
 
 -- each other work's locks go with these
 abbrev pub LocksFit : Table → WorkId → Wants → Type 0
-LocksFit t W wants = (V : WorkId) → W ≢ V → (u : LockUnit) (m n : Mode) → wants u m ≡ true → holds t V u n ≡ true → together m n ≡ true
+LocksFit t W wants = (V : WorkId) → W ≢ V → GoTogether wants (holds t V)
 
 -- a work that is prepared again
 pub record Rebuilds (t : Table) (W : WorkId) (wants : Wants) (t' : Table) : Type 0 where

@@ -64,13 +64,17 @@ is_vulnerable _ = false
 abbrev pub gives_way : Table → WorkId → Bool
 gives_way t V = is_vulnerable (t.standing V)
 
--- no two works hold modes that do not go together
-abbrev pub IsCompatible : Table → Type 0
-IsCompatible t = (V W : WorkId) → V ≢ W → (u : LockUnit) (m n : Mode) → holds t V u m ≡ true → holds t W u n ≡ true → together m n ≡ true
-
--- what is wanted, as a test of units and modes
+-- what is wanted or held, as a test of units and modes
 abbrev pub Wants : Type 0
 Wants = LockUnit → Mode → Bool
+
+-- no unit is held on both sides in modes that don't go together
+abbrev pub GoTogether : Wants → Wants → Type 0
+GoTogether held other = (u : LockUnit) (m n : Mode) → held u m ≡ true → other u n ≡ true → together m n ≡ true
+
+-- no two works hold modes that do not go together
+abbrev pub IsCompatible : Table → Type 0
+IsCompatible t = (V W : WorkId) → V ≢ W → GoTogether (holds t V) (holds t W)
 
 abbrev pub wanted : List Want → Wants
 wanted [] u m = false

@@ -1,5 +1,5 @@
 -- The put of a head or of a map page that a head names, as another layout at its place.
-use Rattle.jn_page_state.proofs.Common.{◌≡◌, ◌⊎◌, inl, inr, ⊎_elim, ◌<◌, ◌≤◌, ◌+◌, ◌^◌, ◌&&◌, ◌||◌, ℕ, zero, suc, Bool, true, false, if◌then◌else◌, List, [], ◌∷◌, map, take, length, Option, Some, None, refl, sym, ◌∙◌, ap, subst, arith, true≢false, nat_tests, nat_eq, nat_lt, nat_le, cases_eq, cases_lt, get_or-set_same, get_or-set_other, slice_index, slice_index_or, slice_set, option_and_then, list_all, find, ServerNo, WorkId, work_eq, work_tells, StoredIntention, What, Fresh, Gone, Cut, Put, FullIntention, Head, FreeHead, Record, Free, Intention, Ready, Going, FlagRecord, most_blocks, most_maps, head_blocks, head_map, map_page, Layout, Unused, map_cell, at_cell, kept_entry, layouts_by, layout_at, entry_in, Counts, Prepared, ready_work, record_in, is_prepared, is_intention, IsLoadable, Contents, head_in, entry_of, layouts_in, stored_in, intention_of, with_first, intentions_from, full_list, intended, works_in, prepared_by, heads_name, works_have, names_for_block, state_in, address_after, IsHeadPut, IsPartPut, LaysOut, HasIntentions, IsCompleteBy, Intends, AddressesDiffer, IsConsistent, names_block, PagePut, RootPut, RecordPut, HeadPut, BlockPut, MapPut, IsPagePut, put_in, is_put_at, rows_after, heads_after, row_at, held_contents, MayStand, IsLayoutPut, Lays, IsStanding, IsPutStep, MayChange, Makes, MakesFirst, StoreView, Pick, StableState, CarryOut, made_by, block_on, pages_by, has_page, get_or_past, FileNo, BlockNo, File, is_in_range, is_some, change, change_by, inside-was, Left, left_of, part_by, file_there}
+use Rattle.jn_page_state.proofs.Common.{◌≡◌, ◌⊎◌, inl, inr, ⊎_elim, ◌<◌, ◌≤◌, ◌+◌, ◌^◌, ◌&&◌, ◌||◌, ℕ, zero, suc, Bool, true, false, if◌then◌else◌, List, [], ◌∷◌, map, take, length, Option, Some, None, refl, sym, ◌∙◌, ap, subst, arith, true≢false, nat_tests, nat_eq, nat_lt, nat_le, cases_eq, cases_lt, get_or-set_same, get_or-set_other, slice_index, slice_index_or, slice_set, option_and_then, list_all, find, ServerNo, WorkId, work_eq, work_tells, StoredIntention, What, Fresh, Gone, Cut, Put, FullIntention, Head, FreeHead, Record, Free, Intention, Ready, Going, FlagRecord, most_blocks, most_maps, head_blocks, head_map, map_page, Layout, Unused, map_cell, at_cell, kept_entry, layouts_by, layout_at, entry_in, Counts, Prepared, ready_work, record_in, is_prepared, is_intention, IsLoadable, Contents, head_in, entry_of, layouts_in, stored_in, intention_of, with_first, intentions_from, full_list, intended, works_in, prepared_by, heads_name, works_have, names_for_block, state_in, address_after, IsHeadPut, IsPartPut, LaysOut, HasIntentions, IsCompleteBy, Intends, AddressesDiffer, IsConsistent, names_block, PagePut, RootPut, RecordPut, HeadPut, BlockPut, MapPut, IsPagePut, put_in, is_put_at, rows_after, heads_after, row_at, held_contents, MayStand, IsLayoutPut, Lays, IsStanding, IsPutStep, MayChange, Makes, MakesFirst, StoreView, Pick, StableState, CarryOut, made_by, block_on, pages_by, has_page, get_or_past, FileNo, BlockNo, File, is_in_range, is_some, change, change_by, inside-was, Left, left_of, part_by, file_there, and_parts}
 use Rattle.jn_page_state.proofs.Found.{found_once}
 use Rattle.jn_page_state.proofs.Laying.{same_layouts, map_at}
 use Rattle.jn_page_state.proofs.MapPages.{row_entry}
@@ -21,8 +21,6 @@ equal m n h = grind (arith, nat_tests, h)
 -- ---- an intention of a prepared work names a block of a file
 
 module _ (pool : List Record) (blocks : ℕ → List ℕ) (work : WorkId) where
-  first : (a b : Bool) → (a && b) ≡ true → (a ≡ true) × (b ≡ true)
-  first a b h = grind (arith, h)
 
   -- what holds of a work's list holds of each of its intentions
   of_list : (order : ℕ) (s : StoredIntention) → intention_of pool work order ≡ Some s → (from n : ℕ) → from ≤ order → order < from + n → list_all (λ i. nat_lt i.block.0 most_blocks) (map (intended blocks) (intentions_from pool work from n)) ≡ true
@@ -39,12 +37,12 @@ module _ (pool : List Record) (blocks : ℕ → List ℕ) (work : WorkId) where
           clash : None ≡ Some s → ⊥
           clash e = cc
       here (Some t) e h = ap (λ (x : StoredIntention). nat_lt x.block.0 most_blocks) (sym (some_is t s e))
-          ∙ (first (nat_lt t.block.0 most_blocks) (list_all (λ i. nat_lt i.block.0 most_blocks) (map (intended blocks) (intentions_from pool work (suc from) n))) h).0
+          ∙ (and_parts (nat_lt t.block.0 most_blocks) (list_all (λ i. nat_lt i.block.0 most_blocks) (map (intended blocks) (intentions_from pool work (suc from) n))) h).0
 
       there : (o : Option StoredIntention) → list_all (λ i. nat_lt i.block.0 most_blocks) (map (intended blocks) (with_first o (intentions_from pool work (suc from) n))) ≡ true
           → list_all (λ i. nat_lt i.block.0 most_blocks) (map (intended blocks) (intentions_from pool work (suc from) n)) ≡ true
       there None h = h
-      there (Some t) h = (first (nat_lt t.block.0 most_blocks) (list_all (λ i. nat_lt i.block.0 most_blocks) (map (intended blocks) (intentions_from pool work (suc from) n))) h).1
+      there (Some t) h = (and_parts (nat_lt t.block.0 most_blocks) (list_all (λ i. nat_lt i.block.0 most_blocks) (map (intended blocks) (intentions_from pool work (suc from) n))) h).1
 
   -- where it is complete
   of_work : (n i : ℕ) (s : StoredIntention) (order : ℕ) → HasIntentions pool work n → is_intention work order (record_in pool i) ≡ true → stored_in (record_in pool i) ≡ Some s

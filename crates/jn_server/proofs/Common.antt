@@ -66,6 +66,7 @@ pub use Rattle.jn_storage.specs.Orderly.{list_of, file_there, IsGiven}
 pub use Rattle.jn_recovery.specs.Memory.{Memory as Kept, view_of, rubbish_in, stored_by, supplied_in}
 pub use Rattle.jn_base.specs.Limits.{most_cells, most_blocks}
 pub use Rattle.jn_records.specs.declared.work.WorkState.{WorkState}
+pub use Rattle.std.proofs.lemmas.Bool.{and_parts, cases_lt}
 pub use Rattle.jn_server.specs.Befalling.{Befalls}
 pub use Rattle.jn_server.specs.Settled.{IsSettledState}
 pub use Rattle.jn_transactions.specs.Telling.{added}

@@ -1,5 +1,5 @@
 -- What the rows read of a storage is what stands on its pages.
-use Rattle.jn_server.proofs.Common.{◌≡◌, ⊎_elim, ◌<◌, ◌+◌, ◌-◌, ℕ, suc, Bool, true, false, not, ◌&&◌, ◌||◌, if◌then◌else◌, List, [], ◌∷◌, length, Option, Some, None, refl, sym, ◌∙◌, ap, subst, true≢false, arith, nat_tests, is_some, count_by, nat_lt, slice_index_or, list_any, Tickets, WorkId, work_eq, work_tells, Counts, Pages, Work, StableState, Prepared, WorkerTable, work_at, intentions_of, promised, is_before, is_in, are_different, total, Accounts, IsCounted, list_of, state, StoreView, pool_on, heads_on, listed, Kept, view_of, rubbish_in, WorkerView, WorkFits, is_none, Remembered, ServerView, IsServer, IsRoomOfPages, CountsPages, file_there, most_cells, contents_of, stored_by, supplied_in, name_of, beside_of, fun_ext, option_map, option_and_then, find, heads_of, standing_pages, beside_on, is_free_page, promised_heads, WorkState, are_rising, names_maps, maps_in}
+use Rattle.jn_server.proofs.Common.{◌≡◌, ⊎_elim, ◌<◌, ◌+◌, ◌-◌, ℕ, suc, Bool, true, false, not, ◌&&◌, ◌||◌, if◌then◌else◌, List, [], ◌∷◌, length, Option, Some, None, refl, sym, ◌∙◌, ap, subst, true≢false, arith, nat_tests, is_some, count_by, nat_lt, slice_index_or, list_any, Tickets, WorkId, work_eq, work_tells, Counts, Pages, Work, StableState, Prepared, WorkerTable, work_at, intentions_of, promised, is_before, is_in, are_different, total, Accounts, IsCounted, list_of, state, StoreView, pool_on, heads_on, listed, Kept, view_of, rubbish_in, WorkerView, WorkFits, is_none, Remembered, ServerView, IsServer, IsRoomOfPages, CountsPages, file_there, most_cells, contents_of, stored_by, supplied_in, name_of, beside_of, fun_ext, option_map, option_and_then, find, heads_of, standing_pages, beside_on, is_free_page, promised_heads, WorkState, are_rising, names_maps, maps_in, and_parts}
 use Rattle.std.proofs.lemmas.List.Sums.{sum_by-cons}
 use Rattle.jn_alloc.specs.Free.{free_count as free_numbers, is_free as is_free_number}
 use Rattle.jn_files.specs.Table.{TableView, IsTable, is_held, layouts_in, IsUnnamed}
@@ -39,14 +39,10 @@ names_in W (w ∷ ws) = by (work_eq w.name W) (names_in W ws)
     by true again = refl
     by false again = again
 
-both : (a b : Bool) → (a && b) ≡ true → (a ≡ true) × (b ≡ true)
-both true b h = (refl, h)
-both false b h = absurd (true≢false (sym h))
-
 names_differ : (ws : WorkerTable) → are_rising ws ≡ true → are_different work_eq (names_of ws) ≡ true
 names_differ [] h = refl
 names_differ (w ∷ ws) h =
-    let p = both (is_before w.name ws) (are_rising ws) h in
+    let p = and_parts (is_before w.name ws) (are_rising ws) h in
     ap (λ b. not b && are_different work_eq (names_of ws)) (names_in w.name ws ∙ ap (λ (o : Option Work). is_some o) (none-behind w.name ws p.0)) ∙ names_differ ws p.1
 
 all_zero : (f : WorkId → ℕ) (ks : List WorkId) → ((k : WorkId) → is_in work_eq k ks ≡ true → f k ≡ 0) → total f ks ≡ 0
@@ -64,13 +60,13 @@ total_more f ks (j ∷ js) dk dj within none =
     total-but work_eq work_tells f j ks dk (within j first)
     ∙ ap (λ n. f j + n) (total_more f (but work_eq j ks) js (different-but work_eq work_tells j ks dk) later.1
     (λ k h. is_in-but work_eq work_tells j k ks ∙ inside k (work_eq j k) refl h)
-    (λ k h out. let at = both (is_in work_eq k ks) (not (work_eq j k)) (sym (is_in-but work_eq work_tells j k ks) ∙ h) in none k at.0 (outside (work_eq j k) (is_in work_eq k js) at.1 out)))
+    (λ k h out. let at = and_parts (is_in work_eq k ks) (not (work_eq j k)) (sym (is_in-but work_eq work_tells j k ks) ∙ h) in none k at.0 (outside (work_eq j k) (is_in work_eq k js) at.1 out)))
   where
     first : (work_eq j j || is_in work_eq j js) ≡ true
     first = ⊎_elim (λ h. ap (λ b. b || is_in work_eq j js) h.0) (λ h. absurd (h.1 refl)) (work_tells j j)
 
     later : (not (is_in work_eq j js) ≡ true) × (are_different work_eq js ≡ true)
-    later = both (not (is_in work_eq j js)) (are_different work_eq js) dj
+    later = and_parts (not (is_in work_eq j js)) (are_different work_eq js) dj
 
     apart : (b : Bool) → not b ≡ true → b ≡ true → ⊥
     apart true n y = true≢false (sym n)

@@ -1,8 +1,7 @@
 -- A whole show, file after file.
-use Rattle.jn_server.proofs.Common.{◌≡◌, ◌≢◌, ◌⊎◌, inl, inr, ℕ, ◌+◌, ◌<◌, ◌≤◌, Bool, true, false, ◌||◌, List, [], ◌∷◌, ◌++◌, Option, Some, None, is_some, refl, sym, ◌∙◌, ap, subst, arith, true≢false, append_assoc, nat_lt, map, if◌then◌else◌, option_and_then, Result, Ok, Err, IfErr, IsErr, IsErrAnd, list_all, nat_tests, append-nil, map-append, FileNo, BlockNo, LockUnit, File, Block, Tid, file_eq, block_eq, file_tells, block_behind, block_in, head_of, commit_holder, Kept, view_of, pages_by, state, NextFile, StoreView, calm_on, Printed, FileThere, print_unit, print_blocks, print_file, print_files, block_before, first-of, second-of, CallFault, Stopped, NoMemory, Shown, ServerView, IsServer, print_of, Looks, IsShown, CutsShort, to_print, LooksOver, TellsPiece, CutsPiece, lesser, IsLeastFrom, LeastFrom, NextAfter, number_after, NextBlock, UnitLocked, is_of, TellsBlocks, TellsFile, most_blocks, address_by}
+use Rattle.jn_server.proofs.Common.{◌≡◌, ◌≢◌, ◌⊎◌, inl, inr, ℕ, ◌+◌, ◌<◌, ◌≤◌, Bool, true, false, ◌||◌, List, [], ◌∷◌, ◌++◌, Option, Some, None, is_some, refl, sym, ◌∙◌, ap, subst, arith, true≢false, append_assoc, nat_lt, map, if◌then◌else◌, option_and_then, Result, Ok, Err, IfErr, IsErr, IsErrAnd, list_all, nat_tests, append-nil, map-append, FileNo, BlockNo, LockUnit, File, Block, Tid, file_eq, block_eq, file_tells, block_behind, block_in, head_of, commit_holder, Kept, view_of, pages_by, state, NextFile, StoreView, calm_on, Printed, FileThere, print_unit, print_blocks, print_file, print_files, block_before, first-of, second-of, CallFault, Stopped, NoMemory, Shown, ServerView, IsServer, print_of, Looks, IsShown, CutsShort, to_print, LooksOver, TellsPiece, CutsPiece, lesser, IsLeastFrom, LeastFrom, NextAfter, number_after, NextBlock, UnitLocked, is_of, TellsBlocks, TellsFile, most_blocks, address_by, cases_lt}
 use Rattle.jn_system.specs.WholeSystem.Steps.{AreNames}
 use Rattle.jn_server.proofs.Pieces.{is_of_lesser, count-all, files-join, same-prints, tells-then, cut-then, tells-nothing, tells-one}
-use Rattle.std.proofs.lemmas.Bool.{cases_lt}
 use Rattle.jn_works.specs.Locked.{next_locked, is_held, next_locked_block}
 use Rattle.jn_works.proofs.LeastFiles.{next_is_least, next_block_is_least}
 use Rattle.jn_server.specs.declared.show.Shown.TheVariants as shown

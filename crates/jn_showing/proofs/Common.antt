@@ -1,7 +1,7 @@
 -- The names from below that these proofs cite, passed on from one place. Declares nothing.
 pub use Rattle.std.proofs.Common.{◌≡◌, ℕ, zero, suc, ◌+◌, Bool, true, false, ◌&&◌, ◌||◌, not, List, [], ◌∷◌, Option, Some, None, refl, sym, ◌∙◌, ap, subst, arith, inl, inr, ◌↔◌, IsTrue, drop}
 pub use Rattle.std.specs.Prelude.{option_and_then, option_map, is_some, position}
-pub use Rattle.std.proofs.lemmas.Bool.{cases_Bool, false≢true}
+pub use Rattle.std.proofs.lemmas.Bool.{cases_Bool, false≢true, and_parts}
 pub use Rattle.jn_base.specs.declared.names.ServerNo.{ServerNo}
 pub use Rattle.jn_replay.specs.declared.files.StoredFile.{StoredFile}
 pub use Rattle.jn_replay.specs.Stored.{registers, AreSame, stored_file, stored_block, files_of}

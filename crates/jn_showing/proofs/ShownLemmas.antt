@@ -1,5 +1,5 @@
 -- Going through the lists of stored files and of lines tells what the report shows of every file and block.
-use Rattle.jn_showing.proofs.Common.{◌≡◌, ℕ, zero, suc, ◌+◌, Bool, true, false, ◌&&◌, ◌||◌, not, List, [], ◌∷◌, Option, Some, None, refl, sym, ◌∙◌, ap, subst, arith, inl, inr, ◌↔◌, IsTrue, option_and_then, option_map, is_some, position, cases_Bool, false≢true, ServerNo, StoredFile, registers, AreSame, stored_file, stored_block, says, event_at, lines_at, lines_before, history_of, AllAsIn, prints_file, accounts_file, accounts_block, is_no_show, is_locked, ShowsFiles, ShownSoFar, ShownAtEnd, Shown, some_file_place, no_file_place, file_accounted, block_accounted, blocks_accounted, line_accounted, is_accounted, ShowsServer, ShowsEvent, ShowsFrom}
+use Rattle.jn_showing.proofs.Common.{◌≡◌, ℕ, zero, suc, ◌+◌, Bool, true, false, ◌&&◌, ◌||◌, not, List, [], ◌∷◌, Option, Some, None, refl, sym, ◌∙◌, ap, subst, arith, inl, inr, ◌↔◌, IsTrue, option_and_then, option_map, is_some, position, cases_Bool, false≢true, ServerNo, StoredFile, registers, AreSame, stored_file, stored_block, says, event_at, lines_at, lines_before, history_of, AllAsIn, prints_file, accounts_file, accounts_block, is_no_show, is_locked, ShowsFiles, ShownSoFar, ShownAtEnd, Shown, some_file_place, no_file_place, file_accounted, block_accounted, blocks_accounted, line_accounted, is_accounted, ShowsServer, ShowsEvent, ShowsFrom, and_parts}
 use Rattle.std.specs.List.{list_all, list_any}
 use Rattle.std.proofs.lemmas.Option.{same_Some}
 use Rattle.jn_base.specs.declared.names.FileNo.{FileNo}
@@ -19,10 +19,6 @@ use Rattle.jn_report.specs.declared.line.Line.{Line}
 use Rattle.jn_replay.specs.declared.files.StoredBlock.{StoredBlock}
 use Rattle.jn_replay.specs.Edits.{is_file}
 use Rattle.jn_serial.specs.Order.{replay}
-
-both : (a b : Bool) → (a && b) ≡ true → (a ≡ true) × (b ≡ true)
-both true b h = (refl, h)
-both false b h = absurd (false≢true h)
 
 pair : (a b : Bool) → a ≡ true → b ≡ true → (a && b) ≡ true
 pair a b g h = rw (g, h) refl
@@ -49,10 +45,10 @@ block_itself a = grind (arith, block_tells a a)
 files_sound : (s : ServerNo) (ls : List Line) (xs : List StoredFile) → list_all (file_accounted s ls) xs ≡ true → (f : FileNo) → says (accounts_file s f) ls ≡ false → registers xs s (File f) ≡ None
 files_sound s ls [] h f n = refl
 files_sound s ls (x ∷ xs) h f n =
-    let parts = both (file_accounted s ls x) (list_all (file_accounted s ls) xs) h in
+    let parts = and_parts (file_accounted s ls x) (list_all (file_accounted s ls) xs) h in
     elim (cases_Bool (is_file s f x)) [
       | inl e ↦ (
-          let named = both (server_eq x.server s) (file_eq x.file f) e in
+          let named = and_parts (server_eq x.server s) (file_eq x.file f) e in
           let shown = second (server_eq x.server s) (says (accounts_file s x.file) ls) parts.0 named.0 in
           let told : says (accounts_file s f) ls ≡ true = subst (λ (g : FileNo). says (accounts_file s g) ls ≡ true) (same_file x.file f named.1) shown in
           absurd (false≢true (sym n ∙ told)))
@@ -81,7 +77,7 @@ files_complete s ls (x ∷ xs) h = pair (file_accounted s ls x) (list_all (file_
 blocks_sound : (s : ServerNo) (f : FileNo) (ls : List Line) (bs : List StoredBlock) → list_all (block_accounted s f ls) bs ≡ true → (p : BlockNo) → says (accounts_block s f p) ls ≡ false → stored_block p bs ≡ None
 blocks_sound s f ls [] h p n = refl
 blocks_sound s f ls (b ∷ bs) h p n =
-    let parts = both (block_accounted s f ls b) (list_all (block_accounted s f ls) bs) h in
+    let parts = and_parts (block_accounted s f ls b) (list_all (block_accounted s f ls) bs) h in
     elim (cases_Bool (block_eq b.block p)) [
       | inl e ↦ (
           let told : says (accounts_block s f p) ls ≡ true = subst (λ (q : BlockNo). says (accounts_block s f q) ls ≡ true) (same_block b.block p e) parts.0 in
@@ -117,7 +113,7 @@ in_file_complete s f ls (Some x) h = blocks_complete s f ls x.blocks.items h
 
 line_sound : (xs : List StoredFile) (s : ServerNo) (ls : List Line) (text : Text) → line_accounted xs s ls text ≡ true → (f : FileNo) (p : BlockNo) → prints_file s f text ≡ true → says (accounts_block s f p) ls ≡ false → registers xs s (Block f p) ≡ None
 line_sound xs s ls (says.File t g) h f p e n =
-    let named = both (server_eq t s) (file_eq g f) e in
+    let named = and_parts (server_eq t s) (file_eq g f) e in
     let here = second (server_eq t s) (blocks_accounted s g ls (stored_file s g xs)) h named.0 in
     in_file_sound s f ls (stored_file s f xs) (subst (λ (k : FileNo). blocks_accounted s k ls (stored_file s k xs) ≡ true) (same_file g f named.1) here) p n
 line_sound xs s ls (says.Aborted c j t cause) h f p e n = absurd (false≢true e)
@@ -181,7 +177,7 @@ lines_accounted xs s ls ms = list_all (λ (l : Line). line_accounted xs s ls l.t
 lines_sound : (xs : List StoredFile) (s : ServerNo) (ls ms : List Line) → lines_accounted xs s ls ms ≡ true → (f : FileNo) (p : BlockNo) → says (prints_file s f) ms ≡ true → says (accounts_block s f p) ls ≡ false → registers xs s (Block f p) ≡ None
 lines_sound xs s ls [] h f p g n = absurd (false≢true g)
 lines_sound xs s ls (m ∷ ms) h f p g n =
-    let parts = both (line_accounted xs s ls m.text) (lines_accounted xs s ls ms) h in
+    let parts = and_parts (line_accounted xs s ls m.text) (lines_accounted xs s ls ms) h in
     elim (cases_Bool (prints_file s f m.text)) [
       | inl e ↦ line_sound xs s ls m.text parts.0 f p e n
       | inr e ↦ lines_sound xs s ls ms parts.1 f p (rw e at g) n
@@ -205,7 +201,7 @@ lines_complete xs s ls (m ∷ ms) h =
 pub shows_where : (xs : List StoredFile) (ls : List Line) (s : ServerNo) → AllAsIn (registers xs) ls → IsTrue (is_accounted xs ls s) ↔ ShowsFiles (registers xs) s ls
 shows_where xs ls s printed = (
   λ h. (
-      let parts = both (list_all (file_accounted s ls) xs) (lines_accounted xs s ls ls) h in
+      let parts = and_parts (list_all (file_accounted s ls) xs) (lines_accounted xs s ls ls) h in
       record { printed = printed; no_other_file = files_sound s ls xs parts.0; no_other_block = lines_sound xs s ls ls parts.1 }),
   λ h. pair (list_all (file_accounted s ls) xs) (lines_accounted xs s ls ls) (files_complete s ls xs h.no_other_file) (lines_complete xs s ls ls h.no_other_block),
 )
@@ -227,7 +223,7 @@ absent_accounted s xs ls h =
 picked : {X : Type 0} (p q : X → Bool) (xs : List X) → list_all p xs ≡ true → list_any q xs ≡ true → (x : X) × (p x ≡ true) × (q x ≡ true)
 picked p q [] h g = absurd (false≢true g)
 picked p q (x ∷ xs) h g =
-    let parts = both (p x) (list_all p xs) h in
+    let parts = and_parts (p x) (list_all p xs) h in
     elim (cases_Bool (q x)) [ inl e ↦ (x, parts.0, e) | inr e ↦ picked p q xs parts.1 (rw e at g) ]
 
 everywhere_sound : (xs : List StoredFile) (ls : List Line) → list_all (λ (x : StoredFile). is_accounted xs ls x.server) xs ≡ true → (s : ServerNo) → is_accounted xs ls s ≡ true

@@ -15,8 +15,8 @@ pub use Rattle.jn_records.specs.declared.intention.Intention.{Intention}
 pub use Rattle.jn_records.specs.NetLists.{intention_change, intention_place, in_order, entry, is_fresh, needs_a_head, heads_of, first_by, as_first, net_of, is_put, is_put_intention, list_change, answered}
 pub use Rattle.jn_locks.specs.declared.words.Mode.{Mode}
 pub use Rattle.jn_locks.specs.declared.words.Mode.TheVariants.{Read, Commit, IntentionWrite}
-pub use Rattle.jn_locks.specs.Locks.{together, rebuilt, is_unit}
-pub use Rattle.jn_storage.specs.Orderly.{unit_of, file_there, IsOrderly, IsPrepared, IsGiven, GoTogether, unit_by, held_by, needs_file, first_of, list_of, IsLoadable}
+pub use Rattle.jn_locks.specs.Locks.{together, rebuilt, is_unit, GoTogether}
+pub use Rattle.jn_storage.specs.Orderly.{unit_of, file_there, IsOrderly, IsPrepared, IsGiven, unit_by, held_by, needs_file, first_of, list_of, IsLoadable}
 pub use Rattle.std.proofs.lemmas.List.Sums.{sum_by-cons, count_by-le-length}
 pub use Rattle.jn_rows.specs.Stable.{StableState, Prepared, MarkGoing, CarryOut, RemoveWork, AddFlag, DropFlag, made_by, at_work, gone_on, Pick}
 pub use Rattle.jn_records.specs.MapPlaces.{MapPlaces, lacks_map, lacking, places_after, places_then, is_past_head}

@@ -139,7 +139,7 @@ put-there i files f h = let at = there-after i files f in by i.what refl at
 abbrev pub AreApart : List Intention → List LockUnit → Type 0
 AreApart list reads = (u : LockUnit) → is_unit (map unit_of list) u ≡ true → is_unit reads u ≡ true → ⊥
 
-apart-reads : (p q : Prepared) → GoTogether p q → AreApart p.list q.reads
+apart-reads : (p q : Prepared) → GoTogether (held_by p) (held_by q) → AreApart p.list q.reads
 apart-reads p q go u c r = true≢false (sym (go u Commit Read c r))
 
 -- each file of a work that read none of the intention's units is there after as before

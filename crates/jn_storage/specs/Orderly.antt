@@ -19,7 +19,7 @@ use Rattle.jn_records.specs.declared.intention.What.TheVariants.{Put}
 use Rattle.jn_records.specs.NetLists.{InOrder, First, Kept, TakenAway, CutFrom, as_first, entry, is_put, heads_of}
 use Rattle.jn_records.specs.MapPlaces.{MapPlaces, need_of}
 use Rattle.jn_locks.specs.declared.words.Mode.{Mode}
-use Rattle.jn_locks.specs.Locks.{Wants, together, is_unit, rebuilt}
+use Rattle.jn_locks.specs.Locks.{Wants, GoTogether, is_unit, rebuilt}
 use Rattle.jn_rows.specs.Worker.{intentions_of}
 use Rattle.jn_rows.specs.Stable.{StableState, Prepared}
 use Rattle.jn_storage.specs.Listing.{AtMost, IsListing, total}
@@ -76,10 +76,6 @@ pub record IsGiven (server : ServerNo) (epoch : ℕ) (of : ServerNo) (at : ℕ) 
   pub own : of ≡ server
   pub past : at ≤ epoch
 
--- two works hold no unit in modes that don't go together
-abbrev pub GoTogether : Prepared → Prepared → Type 0
-GoTogether p q = (u : LockUnit) (m n : Mode) → held_by p u m ≡ true → held_by q u n ≡ true → together m n ≡ true
-
 -- What a recovery asks of the state, apart from what is free.
 pub record IsOrderly (server : ServerNo) (x : StableState) : Type 0 where
   pub works_few : AtMost most_works work_eq (λ w. is_some (x.works w))
@@ -87,7 +83,7 @@ pub record IsOrderly (server : ServerNo) (x : StableState) : Type 0 where
   pub works_given : (w : WorkId) → is_some (x.works w) ≡ true → IsGiven server x.epoch w.server w.epoch
   pub flags_given : (t : Tid) → is_some (x.flags t) ≡ true → IsGiven server x.epoch t.server t.epoch
   pub prepared : (w : WorkId) (p : Prepared) → x.works w ≡ Some p → IsPrepared x.files p.list p.reads
-  pub apart : (v w : WorkId) (p q : Prepared) → v ≢ w → x.works v ≡ Some p → x.works w ≡ Some q → GoTogether p q
+  pub apart : (v w : WorkId) (p q : Prepared) → v ≢ w → x.works v ≡ Some p → x.works w ≡ Some q → GoTogether (held_by p) (held_by q)
 
 abbrev pub file_there : Files → FileNo → Bool
 file_there files f = is_some (files (File f))

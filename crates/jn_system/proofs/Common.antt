@@ -9,7 +9,7 @@ pub use Rattle.jn_order.specs.Files.{Files, or_else, change, no_files, AllFiles,
 pub use Rattle.jn_records.specs.declared.intention.Intention.{Intention}
 pub use Rattle.jn_records.specs.NetLists.{intention_change, list_change, change_by, InOrder, First, Kept, MadeFresh, TakenAway, CutFrom, as_first, entry, stays}
 pub use Rattle.jn_rows.specs.Stable.{StableState, Prepared, Pick, MarkGoing, CarryOut, RemoveWork, made_by, gone_on, carried_at, FlagState, AddReady, AddFlag, DropFlag, at_work, ready_work, flag_state, at_tid, Change, stable, made_all, Left, is_going, next_after, left_of}
-pub use Rattle.jn_locks.specs.Locks.{is_unit, together, unit_before}
+pub use Rattle.jn_locks.specs.Locks.{is_unit, together, GoTogether, unit_before}
 unfoldable pub use Rattle.jn_locks.specs.Locks.{work_before}
 pub use Rattle.jn_lock_rows.specs.Matching.{commit_units, are_rising, is_after, is_before}
 pub use Rattle.jn_system.specs.SmallSteps.Held.{HoldsForCommit, Writes, HasRead, ReadsFiles, file_unit}
@@ -58,7 +58,7 @@ pub use Rattle.jn_msgs.specs.declared.message.Note.{Note}
 pub use Rattle.jn_rows.specs.declared.worker.Phase.TheVariants.{Broken, Active, Prepared as Stored}
 pub use Rattle.jn_lock_rows.proofs.Works.{work_is, work_same, found-name, in_phase, at-phase, rising-phase, once_granted, at-grant, rising-grant, at-more, rising-more, at-less, rising-less, none-front, found-behind, not-before}
 pub use Rattle.jn_rows.specs.Client.{ClientTable, again_row, Commanded, Refuses, Sends, command_row, take_row, sent_again, if_waits, if_idle, if_transaction, if_no_transaction, if_open, if_not_open, is_current, begun_row, opened_row, outcome_row, over}
-pub use Rattle.jn_system.specs.WholeSystem.LockFacts.{GoTogether, IsSoundWork, TableFact, IsSoundPrepared, ReadFiles, StoredFact, stored_phase, IsSoundActive, UpFact, ServerFact, LockFacts}
+pub use Rattle.jn_system.specs.WholeSystem.LockFacts.{IsSoundWork, TableFact, IsSoundPrepared, ReadFiles, StoredFact, stored_phase, IsSoundActive, UpFact, ServerFact, LockFacts}
 pub use Rattle.jn_base.specs.declared.op.Command.{Command}
 pub use Rattle.jn_rows.specs.declared.client.Taken.{Taken}
 pub use Rattle.std.specs.List.{list_any, list_all, AllByRecursion}

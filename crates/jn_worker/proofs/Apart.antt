@@ -1,7 +1,7 @@
 -- A work that is to be prepared goes together with those that are.
-use Rattle.jn_worker.proofs.Common.{◌≡◌, ◌≢◌, ◌≤◌, ◌+◌, Bool, true, false, not, List, [], ◌∷◌, Option, Some, None, map, length, if◌then◌else◌, refl, sym, ◌∙◌, ap, subst, arith, true≢false, ◌&&◌, ◌||◌, is_some, LockUnit, WorkId, work_eq, work_tells, WorkHead, Mode, Read, IntentionWrite, Commit, rebuilt, Table, IsCompatible, is_unit, unit_eq, together, unit_tells, Work, Phase, ActiveWork, PreparedWork, Active, Broken, Stored, Prepared, at_work, ready_work, WorkerTable, work_at, wanted, holds, commit_wants, conflict, holder_at, held_by, collides_at, gives_way, LocksMatch, are_rising, is_before, held_in, none-behind, work_is, is_in, are_different, AtMost, IsOrderly, IsPrepared, IsGiven, unit_of, StorageView, state, MayPrepare, listing-more, WorkerView, Fits, WorkFits, PhaseFits, WorkListFits, ListFits, is_stored}
+use Rattle.jn_worker.proofs.Common.{◌≡◌, ◌≢◌, ◌≤◌, ◌+◌, Bool, true, false, not, List, [], ◌∷◌, Option, Some, None, map, length, if◌then◌else◌, refl, sym, ◌∙◌, ap, subst, arith, true≢false, ◌&&◌, ◌||◌, is_some, LockUnit, WorkId, work_eq, work_tells, WorkHead, Mode, Read, IntentionWrite, Commit, rebuilt, Table, IsCompatible, is_unit, unit_eq, together, unit_tells, Work, Phase, ActiveWork, PreparedWork, Active, Broken, Stored, Prepared, at_work, ready_work, WorkerTable, work_at, wanted, holds, commit_wants, conflict, holder_at, held_by, collides_at, gives_way, LocksMatch, are_rising, is_before, held_in, none-behind, work_is, is_in, are_different, AtMost, IsOrderly, IsPrepared, IsGiven, unit_of, StorageView, state, MayPrepare, listing-more, WorkerView, Fits, WorkFits, PhaseFits, WorkListFits, ListFits, is_stored, GoTogether}
 use Rattle.jn_locks.proofs.Granting.{together_sym}
-use Rattle.jn_storage.specs.Orderly.{GoTogether}
+use Rattle.jn_storage.specs.Orderly.{held_by}
 use Rattle.jn_worker.proofs.Carried.{written-among}
 
 -- ---- the stored works of a table
@@ -169,7 +169,7 @@ module _ (t : WorkerView) (v : StorageView) (l : Table) (W : WorkId) (w : Work) 
     is_some_added : (V : WorkId) → is_some (added V) ≡ (work_eq W V || is_some ((state v).works V))
     is_some_added V = grind arith
 
-    apart-added : (V U : WorkId) (p q : Prepared) → V ≢ U → added V ≡ Some p → added U ≡ Some q → GoTogether p q
+    apart-added : (V U : WorkId) (p q : Prepared) → V ≢ U → added V ≡ Some p → added U ≡ Some q → GoTogether (held_by p) (held_by q)
     apart-added V U p q ne e f = by (work_eq W V) refl (work_eq W U) refl e f
       where
         is_same : (x y : Prepared) → Some x ≡ Some y → x ≡ y
@@ -178,10 +178,10 @@ module _ (t : WorkerView) (v : StorageView) (l : Table) (W : WorkId) (w : Work) 
         other : (X Y : WorkId) → X ≢ Y → work_eq W X ≡ true → W ≢ Y
         other X Y ne e same = ne (sym (work_is W X e) ∙ same)
 
-        by : (b : Bool) → work_eq W V ≡ b → (c : Bool) → work_eq W U ≡ c → (if b then Some (ready_work head a.list a.reads) else (state v).works V) ≡ Some p → (if c then Some (ready_work head a.list a.reads) else (state v).works U) ≡ Some q → GoTogether p q
+        by : (b : Bool) → work_eq W V ≡ b → (c : Bool) → work_eq W U ≡ c → (if b then Some (ready_work head a.list a.reads) else (state v).works V) ≡ Some p → (if c then Some (ready_work head a.list a.reads) else (state v).works U) ≡ Some q → GoTogether (held_by p) (held_by q)
         by true b true c e f = absurd (ne (sym (work_is W V b) ∙ work_is W U c))
-        by true b false c e f = subst (λ p. GoTogether p q) (is_same (ready_work head a.list a.reads) p e) (λ u m n r s. new-apart U q (other V U ne b) f u m n r s)
-        by false b true c e f = subst (λ q. GoTogether p q) (is_same (ready_work head a.list a.reads) q f) (λ u m n r s. together_sym m n ∙ new-apart V p (other U V (λ x. ne (sym x)) c) e u n m s r)
+        by true b false c e f = subst (λ p. GoTogether (held_by p) (held_by q)) (is_same (ready_work head a.list a.reads) p e) (λ u m n r s. new-apart U q (other V U ne b) f u m n r s)
+        by false b true c e f = subst (λ q. GoTogether (held_by p) (held_by q)) (is_same (ready_work head a.list a.reads) q f) (λ u m n r s. together_sym m n ∙ new-apart V p (other U V (λ x. ne (sym x)) c) e u n m s r)
         by false b false c e f = h.serving.orderly.apart V U p q ne e f
 
     prepared-added : (V : WorkId) (p : Prepared) → added V ≡ Some p → IsPrepared (state v).files p.list p.reads

@@ -18,14 +18,14 @@ pub use Rattle.jn_base.proofs.Tells.{work_tells, file_tells}
 pub use Rattle.jn_records.specs.declared.work.WorkHead.{WorkHead}
 pub use Rattle.jn_locks.specs.declared.words.Mode.{Mode}
 pub use Rattle.jn_locks.specs.declared.words.Mode.TheVariants.{Read, IntentionWrite, Commit}
-pub use Rattle.jn_locks.specs.Locks.{rebuilt, Table, IsCompatible, is_unit, together}
+pub use Rattle.jn_locks.specs.Locks.{rebuilt, Table, IsCompatible, is_unit, together, GoTogether}
 unfoldable pub use Rattle.jn_locks.specs.Locks.{work_before, unit_before}
 pub use Rattle.jn_locks.proofs.Orders.{unit_tells, work_before-irreflexive, work_before-transitive, work_before-total, unit_before-total}
 pub use Rattle.jn_rows.specs.declared.worker.Phase.{Phase}
 pub use Rattle.jn_rows.specs.declared.worker.ActiveWork.{ActiveWork}
 pub use Rattle.jn_rows.specs.declared.worker.PreparedWork.{PreparedWork}
 pub use Rattle.jn_rows.specs.declared.worker.Phase.TheVariants.{Active, Broken, Prepared as Stored}
-pub use Rattle.jn_lock_rows.specs.Matching.{LocksMatch, are_rising, is_before, held_in, is_after, standing_in, standing_of, is_ordered, are_ordered, GoTogether, units_of, is_name_after}
+pub use Rattle.jn_lock_rows.specs.Matching.{LocksMatch, are_rising, is_before, held_in, is_after, standing_in, standing_of, is_ordered, are_ordered, WorksGoTogether, units_of, is_name_after}
 pub use Rattle.jn_lock_rows.proofs.Works.{none-behind, work_is, found-name, work_same, not-before, found-behind, at-less, in_phase, at-phase, at-grant, once_granted, at-more, none-front}
 pub use Rattle.jn_storage.specs.Orderly.{IsOrderly, IsPrepared, IsGiven, unit_of, list_of, needed, needs_file, takes_away, first_of, unit_by}
 pub use Rattle.jn_storage.proofs.Listings.{listing-more, but, is_in-but, length-but}

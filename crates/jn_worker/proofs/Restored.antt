@@ -1,5 +1,5 @@
 -- The works that are restored.
-use Rattle.jn_worker.proofs.Common.{◌≡◌, ◌≤◌, ◌<◌, ◌+◌, ℕ, zero, suc, Bool, true, false, List, [], ◌∷◌, ◌++◌, Option, Some, None, length, map, take, slice_index_or, if◌then◌else◌, refl, sym, ◌∙◌, ap, subst, arith, true≢false, ◌&&◌, ◌||◌, All, is_some, take_more, FileNo, LockUnit, WorkId, work_eq, work_tells, Intention, Table, is_unit, LocksFit, Rebuilds, rebuilt, unit_tells, Work, Stored, PreparedWork, StableState, Prepared, is_going, work_at, written_unit, restored_work, restored_worker, LocksMatch, GoTogether, units_of, is_in, are_different, AtMost, IsOrderly, unit_of, unit_by, StorageView, IsServing, IsRecovered, state, name_of, outline, outline_of, IsTold, TellsWorks, but, is_in-but, length-but, WorkerView, Fits, WorkFits, WorkListFits, are_written, state_of, sorted, IsFor, RestoredTo, Restores}
+use Rattle.jn_worker.proofs.Common.{◌≡◌, ◌≤◌, ◌<◌, ◌+◌, ℕ, zero, suc, Bool, true, false, List, [], ◌∷◌, ◌++◌, Option, Some, None, length, map, take, slice_index_or, if◌then◌else◌, refl, sym, ◌∙◌, ap, subst, arith, true≢false, ◌&&◌, ◌||◌, All, is_some, take_more, FileNo, LockUnit, WorkId, work_eq, work_tells, Intention, Table, is_unit, LocksFit, Rebuilds, rebuilt, unit_tells, Work, Stored, PreparedWork, StableState, Prepared, is_going, work_at, written_unit, restored_work, restored_worker, LocksMatch, WorksGoTogether, units_of, is_in, are_different, AtMost, IsOrderly, unit_of, unit_by, StorageView, IsServing, IsRecovered, state, name_of, outline, outline_of, IsTold, TellsWorks, but, is_in-but, length-but, WorkerView, Fits, WorkFits, WorkListFits, are_written, state_of, sorted, IsFor, RestoredTo, Restores}
 use Rattle.std.proofs.lemmas.List.Elements.{All-head, All-tail}
 use Rattle.jn_base.specs.declared.names.BlockNo.{BlockNo}
 use Rattle.jn_base.specs.declared.names.ServerNo.{ServerNo}
@@ -33,7 +33,7 @@ units-same : (list : List Intention) → map unit_of list ≡ map (λ (i : Inten
 units-same [] = refl
 units-same (i ∷ list) = ap (λ u. u ∷ map unit_of list) (unit-same i.what i.file i.block) ∙ ap (λ l. written_unit i.what i.file i.block ∷ l) (units-same list)
 
-go-together : (server : ServerNo) (x : StableState) → IsOrderly server x → GoTogether x.works
+go-together : (server : ServerNo) (x : StableState) → IsOrderly server x → WorksGoTogether x.works
 go-together server x o V W p q ne e f u m n a b = o.apart V W p q ne e f u m n (subst (λ us. rebuilt us p.reads u m ≡ true) (sym (units-same p.list)) a) (subst (λ us. rebuilt us q.reads u n ≡ true) (sym (units-same q.list)) b)
 
 -- ---- a listed work

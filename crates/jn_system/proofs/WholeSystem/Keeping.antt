@@ -48,29 +48,29 @@ module _ (W : WorkId) (wants : List Wanted) (phase : Phase) (t now : WorkerTable
   is-sound V v (Broke other x h way u T e) = subst (λ (y : Work). IsSoundWork (after V) y.tid y.phase) (sym e)
       (others V other ∙ way-not-stored (stored V) x.tid x.phase way (fact.sound V x h))
 
-  mine-kept : (V : WorkId) (v : Work) → W ≢ V → work_at V t ≡ Some v → Clear v.phase wants → GoTogether phase v.phase
+  mine-kept : (V : WorkId) (v : Work) → W ≢ V → work_at V t ≡ Some v → Clear v.phase wants → GoTogether (holds phase) (holds v.phase)
   mine-kept V v other h clear u m n a b = by (mine u m a)
     where
       by : (holds w.phase u m ≡ true) ⊎ (is_unit (units_for m wants) u ≡ true) → together m n ≡ true
       by (inl p) = fact.apart W V w v found h other u m n p b
       by (inr p) = clear u m n p b
 
-  turned : (p q : Phase) → GoTogether p q → GoTogether q p
+  turned : (p q : Phase) → GoTogether (holds p) (holds q) → GoTogether (holds q) (holds p)
   turned p q h u m n a b = together-sym m n ∙ h u n m b a
 
   to-phase : (v : Work) (x : Work) (q : Phase) → v ≡ record x { phase = q } → v.phase ≡ q
   to-phase v x q e = ap (λ (y : Work). y.phase) e
 
-  is-apart : (V U : WorkId) (v u : Work) → Origin W wants phase t V v → Origin W wants phase t U u → V ≢ U → GoTogether v.phase u.phase
+  is-apart : (V U : WorkId) (v u : Work) → Origin W wants phase t V v → Origin W wants phase t U u → V ≢ U → GoTogether (holds v.phase) (holds u.phase)
   is-apart V U v u (Mine same x h e) (Mine same' x' h' e') ne = absurd (ne (sym same ∙ same'))
-  is-apart V U v u (Mine same x h e) (Kept other h' clear) ne = subst (λ (p : Phase). GoTogether p u.phase) (sym (to-phase v x phase e)) (mine-kept U u other h' clear)
-  is-apart V U v u (Mine same x h e) (Broke other x' h' way y T e') ne = subst (λ (p : Phase). GoTogether v.phase p) (sym (to-phase u x' (Broken y T) e'))
+  is-apart V U v u (Mine same x h e) (Kept other h' clear) ne = subst (λ (p : Phase). GoTogether (holds p) (holds u.phase)) (sym (to-phase v x phase e)) (mine-kept U u other h' clear)
+  is-apart V U v u (Mine same x h e) (Broke other x' h' way y T e') ne = subst (λ (p : Phase). GoTogether (holds v.phase) (holds p)) (sym (to-phase u x' (Broken y T) e'))
       (λ z m n a b. broken-holds (together m n ≡ true) y T z n b)
-  is-apart V U v u (Kept other h clear) (Mine same x h' e) ne = subst (λ (p : Phase). GoTogether v.phase p) (sym (to-phase u x phase e)) (turned phase v.phase (mine-kept V v other h clear))
+  is-apart V U v u (Kept other h clear) (Mine same x h' e) ne = subst (λ (p : Phase). GoTogether (holds v.phase) (holds p)) (sym (to-phase u x phase e)) (turned phase v.phase (mine-kept V v other h clear))
   is-apart V U v u (Kept other h clear) (Kept other' h' clear') ne = fact.apart V U v u h h' ne
-  is-apart V U v u (Kept other h clear) (Broke other' x' h' way y T e') ne = subst (λ (p : Phase). GoTogether v.phase p) (sym (to-phase u x' (Broken y T) e'))
+  is-apart V U v u (Kept other h clear) (Broke other' x' h' way y T e') ne = subst (λ (p : Phase). GoTogether (holds v.phase) (holds p)) (sym (to-phase u x' (Broken y T) e'))
       (λ z m n a b. broken-holds (together m n ≡ true) y T z n b)
-  is-apart V U v u (Broke other x h way y T e) o ne = subst (λ (p : Phase). GoTogether p u.phase) (sym (to-phase v x (Broken y T) e))
+  is-apart V U v u (Broke other x h way y T e) o ne = subst (λ (p : Phase). GoTogether (holds p) (holds u.phase)) (sym (to-phase v x (Broken y T) e))
       (λ z m n a b. broken-holds (together m n ≡ true) y T z m a)
 
   is-live : (V : WorkId) → is_some (after V) ≡ true → is_some (work_at V t) ≡ true

@@ -74,7 +74,7 @@ stored-fact s t k epoch stored fact same now = record {
         by (inl h) = subst (λ us. HasRead us (file_unit u)) (sym x.reads) (x.files u (inl (subst (λ us. HasRead us u) x.reads h)))
         by (inr h) = subst (λ us. HasRead us (file_unit u)) (sym x.reads) (x.files u (inr (x.covers u h)))
 
-    apart : (V W : WorkId) (p q : Prepared) → V ≢ W → Entry t stored V p → Entry t stored W q → GoTogether (stored_phase p) (stored_phase q)
+    apart : (V W : WorkId) (p q : Prepared) → V ≢ W → Entry t stored V p → Entry t stored W q → GoTogether (holds (stored_phase p)) (holds (stored_phase q))
     apart V W p q ne x y u m n a b = fact.apart V W x.work y.work x.found y.found ne u m n (entry-holds t stored V p x u m a) (entry-holds t stored W q y u n b)
 
 -- ---- a restart
@@ -167,7 +167,7 @@ restart-keeps s x Ws fact names = record {
   sound = λ V v h. let r = restored-is x Ws V v h in subst (λ (y : Work). IsSoundWork (x.works V) y.tid y.phase) (sym r.1.1) (sound V r.0 r.1.0);
   live = λ V h. restored-there x Ws V (names.each V ∙ h) h;
   apart = λ V U v u h l ne. let p = restored-is x Ws V v h in let q = restored-is x Ws U u l in
-      subst (λ (y : Work). GoTogether y.phase u.phase) (sym p.1.1) (subst (λ (y : Work). GoTogether (stored_phase p.0) y.phase) (sym q.1.1) (fact.apart V U p.0 q.0 p.1.0 q.1.0 ne));
+      subst (λ (y : Work). GoTogether (holds y.phase) (holds u.phase)) (sym p.1.1) (subst (λ (y : Work). GoTogether (holds (stored_phase p.0)) (holds y.phase)) (sym q.1.1) (fact.apart V U p.0 q.0 p.1.0 q.1.0 ne));
 }
   where
     sound : (V : WorkId) (p : Prepared) → x.works V ≡ Some p → IsSoundPrepared (x.works V) p.tid (record { reads = p.reads; writes = commit_units p.list })

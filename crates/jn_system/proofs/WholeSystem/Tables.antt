@@ -94,9 +94,9 @@ module _ (t : WorkerTable) (k : Tickets) (stored : WorkId → Option Prepared) (
       stands V false h = h
 
       apart : (V U : WorkId) (v u : Work) → ((name_from k ≡ V) × (new_work (name_from k) T ≡ v)) ⊎ (work_at V t ≡ Some v) → ((name_from k ≡ U) × (new_work (name_from k) T ≡ u)) ⊎ (work_at U t ≡ Some u)
-          → V ≢ U → GoTogether v.phase u.phase
-      apart V U v u (inl p) q ne = subst (λ (x : Work). GoTogether x.phase u.phase) p.1 (λ z m n a b. new-holds (together m n ≡ true) (name_from k) T z m a)
-      apart V U v u (inr p) (inl q) ne = subst (λ (x : Work). GoTogether v.phase x.phase) q.1 (λ z m n a b. new-holds (together m n ≡ true) (name_from k) T z n b)
+          → V ≢ U → GoTogether (holds v.phase) (holds u.phase)
+      apart V U v u (inl p) q ne = subst (λ (x : Work). GoTogether (holds x.phase) (holds u.phase)) p.1 (λ z m n a b. new-holds (together m n ≡ true) (name_from k) T z m a)
+      apart V U v u (inr p) (inl q) ne = subst (λ (x : Work). GoTogether (holds v.phase) (holds x.phase)) q.1 (λ z m n a b. new-holds (together m n ≡ true) (name_from k) T z n b)
       apart V U v u (inr p) (inr q) ne = fact.apart V U v u p q ne
 
 -- ---- a work less

@@ -7,7 +7,7 @@ use Rattle.jn_base.specs.declared.names.WorkId.{WorkId}
 use Rattle.jn_base.specs.declared.names.Tickets.{Tickets}
 use Rattle.jn_records.specs.NetLists.{InOrder}
 use Rattle.jn_locks.specs.declared.words.Mode.{Mode}
-use Rattle.jn_locks.specs.Locks.{together, is_unit}
+use Rattle.jn_locks.specs.Locks.{GoTogether, is_unit}
 use Rattle.jn_rows.specs.declared.worker.Work.{Work}
 use Rattle.jn_rows.specs.declared.worker.Phase.{Phase}
 use Rattle.jn_rows.specs.declared.worker.Phase.TheVariants.{Active, Broken, Prepared as Stored}
@@ -18,10 +18,6 @@ use Rattle.jn_rows.specs.Worker.{WorkerTable, work_at, holds, name_from}
 use Rattle.jn_lock_rows.specs.Matching.{are_rising, is_after, commit_units}
 use Rattle.jn_system.specs.SmallSteps.Held.{HoldsForCommit, HasRead, ReadsFiles, file_unit}
 use Rattle.jn_system.specs.WholeSystem.World.{World, Memory}
-
--- what one work holds goes with what another holds
-abbrev pub GoTogether : Phase → Phase → Type 0
-GoTogether p q = (u : LockUnit) (m n : Mode) → holds p u m ≡ true → holds q u n ≡ true → together m n ≡ true
 
 -- the file of each unit that is read or written is read too
 abbrev pub ReadFiles : List LockUnit → List LockUnit → Type 0
@@ -58,7 +54,7 @@ pub record TableFact (t : WorkerTable) (k : Tickets) (stored : WorkId → Option
   -- each stable work is among them
   pub live : (W : WorkId) → is_some (stored W) ≡ true → is_some (work_at W t) ≡ true
   -- no two works hold a unit in modes that don't go together
-  pub apart : (V W : WorkId) (v w : Work) → work_at V t ≡ Some v → work_at W t ≡ Some w → V ≢ W → GoTogether v.phase w.phase
+  pub apart : (V W : WorkId) (v w : Work) → work_at V t ≡ Some v → work_at W t ≡ Some w → V ≢ W → GoTogether (holds v.phase) (holds w.phase)
 
 -- a stable work as a restart makes it
 abbrev pub stored_phase : Prepared → Phase
@@ -69,7 +65,7 @@ pub record StoredFact (s : ServerNo) (epoch : ℕ) (stored : WorkId → Option P
   pub place : (W : WorkId) (p : Prepared) → stored W ≡ Some p → W.server ≡ s
   pub no_later : (W : WorkId) (p : Prepared) → stored W ≡ Some p → W.epoch ≤ epoch
   pub files : (W : WorkId) (p : Prepared) → stored W ≡ Some p → ReadsFiles p.list p.reads
-  pub apart : (V W : WorkId) (p q : Prepared) → stored V ≡ Some p → stored W ≡ Some q → V ≢ W → GoTogether (stored_phase p) (stored_phase q)
+  pub apart : (V W : WorkId) (p q : Prepared) → stored V ≡ Some p → stored W ≡ Some q → V ≢ W → GoTogether (holds (stored_phase p)) (holds (stored_phase q))
 
 pub record UpFact (s : ServerNo) (m : Memory) (found : Pick → StableState) : Type 0 where
   pub same : IsUp found
